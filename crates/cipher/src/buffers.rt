@@ -1,4 +1,4 @@
-//! Places that are written, with what is read in their stead.
+//! Places that are written, and those that are read in their stead.
 
 ghost use Rattle.std.specs.Prelude.{◌≡◌, ◌↔◌, ℕ, ◌+◌, ◌-◌, ◌*◌, ◌/◌, ◌<◌, ◌≤◌, IsTrue, IsOk, IfOk, OnOk, length, take, drop, slice_index_or};
 ghost use Rattle.std.specs.Simd.{first_chunks};
@@ -27,7 +27,7 @@ pub struct InOutBuf<'i, 'o, T> {
     pub input: &'i [T],
 }
 
-/// A message and a slice with room for what is made of it.
+/// A message and a slice with room for the output made of it.
 #[derive(Drop)]
 pub struct InOutBufReserved<'i, 'o, T> {
     /// The slice that is written.
@@ -68,7 +68,7 @@ impl<'i, 'o, T> InOut<'i, 'o, T> {
         }
     }
 
-    /// What is read.
+    /// The place that is read.
     pub fn get_in(&self) -> &T
         ensures value { result.now ≡ read_of self.now }
     {
@@ -167,7 +167,7 @@ impl<'i, 'o, T> InOutBuf<'i, 'o, T> {
         self.output.len() == 0
     }
 
-    /// What is read.
+    /// The places that are read.
     pub fn get_in(&self) -> &[T]
         ensures value { result.now ≡ read_all self.now }
     {
@@ -185,7 +185,7 @@ impl<'i, 'o, T> InOutBuf<'i, 'o, T> {
         &mut *self.output
     }
 
-    /// One place and what is read for it, the place being below the length.
+    /// One place, and the one that is read for it. The place is below the length.
     pub fn get(&mut self, pos: usize) -> InOut<'_, '_, T>
         requires { pos < length self.old.output.now }
         ensures read { read_of result ≡ slice_index_or (read_all self.old) pos result.output.now }

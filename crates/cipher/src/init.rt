@@ -101,7 +101,7 @@ pub trait InnerIvInit<C: Drop, const I: usize>: Sized {
     }
 }
 
-/// A mode whose state can be told as an initialization vector of I bytes.
+/// A mode whose state is an initialization vector of I bytes.
 pub trait IvState<const I: usize> {
     // the initialization vector from which a new value goes on as this one does
     ghost iv_of: { Self → List ℕ };

@@ -23,22 +23,22 @@ pub trait StreamCipher {
     fn check_remaining(&self, data_len: usize) -> Result<(), StreamCipherError>
         ensures ok { IsOk result ↔ has self.now data_len };
 
-    /// Writes the bytes of an input of the output's length, else those of the output, xor the bytes to come, of which
-    /// so many are left. All calls that apply the keystream stand on this one.
+    /// Writes the bytes of an input of the output's length, else those of the output, xor the bytes to come. As many
+    /// are left. All calls that apply the keystream call this one.
     fn unchecked_apply_keystream_slices(&mut self, output: &mut [u8], input: &[u8])
         requires { has self.old (length output.old) }
         ensures value { output.new ≡ xored (to_come (stream self.old)) (pick input.now output.old) }
         ensures moved { HasMoved (stream self.old) (length output.old) (stream self.new) }
         ensures leaves { LeavesRoom (has self.old) (length output.old) (has self.new) };
 
-    /// Writes the bytes to come, of which so many are left.
+    /// Writes the bytes to come. As many are left.
     fn unchecked_write_keystream(&mut self, buf: &mut [u8])
         requires { has self.old (length buf.old) }
         ensures value { buf.new ≡ next_bytes (length buf.old) (stream self.old) }
         ensures moved { HasMoved (stream self.old) (length buf.old) (stream self.new) }
         ensures leaves { LeavesRoom (has self.old) (length buf.old) (has self.new) };
 
-    /// Writes the bytes that are read xor the bytes to come, of which so many are left.
+    /// Writes the bytes that are read xor the bytes to come. As many are left.
     final fn unchecked_apply_keystream_inout(&mut self, buf: InOutBuf<'_, '_, u8>)
         requires { has self.old (length buf.output.now) }
         ensures value { buf.exit.0.now ≡ xored (to_come (stream self.old)) (read_all buf.entry) }
@@ -49,7 +49,7 @@ pub trait StreamCipher {
         self.unchecked_apply_keystream_slices(output, input);
     }
 
-    /// Writes bytes xor the bytes to come in their places, of which so many are left.
+    /// Writes bytes xor the bytes to come in their places. As many are left.
     final fn unchecked_apply_keystream(&mut self, buf: &mut [u8])
         requires { has self.old (length buf.old) }
         ensures value { buf.new ≡ xored (to_come (stream self.old)) buf.old }
@@ -59,7 +59,7 @@ pub trait StreamCipher {
         self.unchecked_apply_keystream_slices(buf, &[]);
     }
 
-    /// Writes an input xor the bytes to come, of which so many are left, into an output.
+    /// Writes an input xor the bytes to come into an output. As many are left.
     ///
     /// # Errors
     /// `NotEqualError` exactly if their lengths differ. Nothing changes then.
@@ -151,7 +151,7 @@ pub trait StreamCipher {
         Ok(())
     }
 
-    /// Writes the bytes that are read xor the bytes to come, of which so many are left.
+    /// Writes the bytes that are read xor the bytes to come. As many are left.
     final fn apply_keystream_inout(&mut self, buf: InOutBuf<'_, '_, u8>)
         requires { has self.old (length buf.output.now) }
         ensures value { buf.exit.0.now ≡ xored (to_come (stream self.old)) (read_all buf.entry) }
@@ -162,7 +162,7 @@ pub trait StreamCipher {
         self.unchecked_apply_keystream_slices(output, input);
     }
 
-    /// Writes bytes xor the bytes to come in their places, of which so many are left.
+    /// Writes bytes xor the bytes to come in their places. As many are left.
     final fn apply_keystream(&mut self, buf: &mut [u8])
         requires { has self.old (length buf.old) }
         ensures value { buf.new ≡ xored (to_come (stream self.old)) buf.old }
@@ -172,7 +172,7 @@ pub trait StreamCipher {
         self.unchecked_apply_keystream_slices(buf, &[]);
     }
 
-    /// Writes an input xor the bytes to come, of which so many are left, into an output of its length.
+    /// Writes an input xor the bytes to come into an output of its length. As many are left.
     final fn apply_keystream_b2b(&mut self, input: &[u8], output: &mut [u8])
         requires same_length { length input.now ≡ length output.old }
         requires left { has self.old (length output.old) }
@@ -183,7 +183,7 @@ pub trait StreamCipher {
         self.unchecked_apply_keystream_slices(output, input);
     }
 
-    /// Writes the bytes to come, of which so many are left.
+    /// Writes the bytes to come. As many are left.
     final fn write_keystream(&mut self, buf: &mut [u8])
         requires { has self.old (length buf.old) }
         ensures value { buf.new ≡ next_bytes (length buf.old) (stream self.old) }

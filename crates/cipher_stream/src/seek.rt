@@ -1,4 +1,4 @@
-//! Stream ciphers whose position can be told and chosen.
+//! Stream ciphers whose position can be read and chosen.
 
 ghost use Rattle.std.specs.Prelude.{◌≡◌, ◌↔◌, ℕ, ◌+◌, ◌<◌, Some, IsOk, IfOk, OnOk, OnErr};
 ghost use Rattle.cipher_stream.specs.ByteStream.{ByteStream, to_come, position, IsSame, AtMost};
@@ -7,7 +7,7 @@ use crate::ciphers::StreamCipher;
 use crate::errors::{OverflowError, StreamCipherError};
 use crate::positions::SeekNum;
 
-/// A stream cipher whose position, in bytes, can be told and chosen.
+/// A stream cipher whose position, in bytes, can be read and chosen.
 pub trait StreamCipherSeek: StreamCipher {
     // the greatest position: the first byte of the greatest block
     ghost end: { ℕ };

@@ -166,8 +166,8 @@ impl<C: BlockCipherEncrypt<16>> Gcm<C> {
         Ok(())
     }
 
-    /// Writes the one text of which `sealed` is the encryption into `out`, which has 16 bytes less, or none where
-    /// `sealed` is shorter than 16 bytes (7.2).
+    /// Writes the one text whose encryption is `sealed` into `out` (7.2). `out` has 16 bytes less, or none if
+    /// `sealed` is shorter than 16 bytes.
     ///
     /// # Errors
     /// `DataTooLong` where `aad` has more than 2^36 bytes, else `TextTooLong` where `sealed` has more than 2^36 - 16,

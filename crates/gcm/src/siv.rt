@@ -192,8 +192,8 @@ impl<C: KeyInit<K> + BlockCipherEncrypt<16> + Drop, const K: usize> GcmSiv<C, K>
         Ok(())
     }
 
-    /// Writes the one text of which `sealed` is the encryption into `out`, which has 16 bytes less, or none where
-    /// `sealed` is shorter than 16 bytes (5). The body makes the text twice: for the tag, and to write it.
+    /// Writes the one text whose encryption is `sealed` into `out` (5). `out` has 16 bytes less, or none if
+    /// `sealed` is shorter than 16 bytes. The body makes the text twice: for the tag, and to write it.
     ///
     /// # Errors
     /// `DataTooLong` where `aad` has more than 2^36 bytes, else `TextTooLong` where `sealed` has more than 2^36 + 16,

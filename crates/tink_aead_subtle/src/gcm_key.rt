@@ -81,9 +81,13 @@ impl GcmKey {
     /// The plaintext of a nonce of 12 bytes, a ciphertext and a tag of 16 bytes.
     ///
     /// # Errors
-    /// The first that applies: `TooShort` if there are fewer than 28 bytes; `DataTooLong` if the associated data have
-    /// more than 2^36 bytes; `TextTooLong` if the plaintext has more than AES-GCM takes; `DecryptFailed` if it is the
-    /// ciphertext of no plaintext with these associated data. `OutOfMemory`.
+    /// The first that applies:
+    /// - `TooShort` if there are fewer than 28 bytes;
+    /// - `DataTooLong` if the associated data have more than 2^36 bytes;
+    /// - `TextTooLong` if the plaintext has more bytes than AES-GCM takes;
+    /// - `DecryptFailed` if it is the ciphertext of no plaintext with these associated data.
+    ///
+    /// `OutOfMemory`.
     pub fn decrypt(
         &self,
         alloc: Global,

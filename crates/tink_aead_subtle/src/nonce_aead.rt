@@ -60,9 +60,12 @@ pub trait NonceAead {
     /// Writes the plaintext of a ciphertext and its tag into `out`, which has 16 bytes less.
     ///
     /// # Errors
-    /// The first that applies: `DataTooLong` if the associated data have more than 2^36 bytes; `TextTooLong` if the
-    /// ciphertext and its tag have more than `most_text` and 16 bytes; `DecryptFailed` if no plaintext is encrypted to
-    /// them. `out` is as before.
+    /// The first that applies:
+    /// - `DataTooLong` if the associated data have more than 2^36 bytes;
+    /// - `TextTooLong` if the ciphertext and its tag have more than `most_text` and 16 bytes;
+    /// - `DecryptFailed` if no plaintext is encrypted to them.
+    ///
+    /// `out` is as before.
     fn open_into(
         &self,
         nonce: &[u8],
@@ -228,9 +231,13 @@ pub fn encrypt<A: NonceAead>(
 /// The plaintext of a nonce of 12 bytes, a ciphertext and a tag of 16 bytes.
 ///
 /// # Errors
-/// The first that applies: `TooShort` if there are fewer than 28 bytes; `DataTooLong` if the associated data have more
-/// than 2^36 bytes; `TextTooLong` if the plaintext has more than `most_text` bytes; `DecryptFailed` if it is the
-/// ciphertext of no plaintext with these associated data. `OutOfMemory`.
+/// The first that applies:
+/// - `TooShort` if there are fewer than 28 bytes;
+/// - `DataTooLong` if the associated data have more than 2^36 bytes;
+/// - `TextTooLong` if the plaintext has more than `most_text` bytes;
+/// - `DecryptFailed` if it is the ciphertext of no plaintext with these associated data.
+///
+/// `OutOfMemory`.
 pub fn decrypt<A: NonceAead>(
     aead: &A,
     alloc: Global,

@@ -40,8 +40,8 @@ pub trait Question<P> {
     ghost answers_told: { (q : Self) (entry : TypedEntry P) (input : List ℕ) → IsTold (answers q entry input) };
 }
 
-/// The answer of the first entry that accepts: the entries of the input's first five bytes are asked on the rest, in
-/// their order, where the input is longer than that; then those without a prefix on the whole input.
+/// The answer of the first entry that accepts. If the input is longer than five bytes, the entries of its first five
+/// bytes try the rest, in their order. Then the entries without a prefix try the whole input.
 ///
 /// # Errors
 /// `none` exactly where no entry accepts; an entry's `OutOfMemory` ends the call as such.

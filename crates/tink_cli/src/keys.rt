@@ -156,8 +156,7 @@ pub fn grow<'w, Y: System>(
 /// # Errors
 /// 11, 13, 14 and 30 as `show`. 31 if no key has the id. 32 if it is the primary key, which only `promote` and
 /// `enable` take. 33 if its status does not allow the change. 12 if the file cannot be written, or another change of
-/// it is at work.
-/// 10. No file is changed then.
+/// it is at work. 10. No file is changed then.
 pub fn edit<'w, Y: System>(
     alloc: Global,
     system: &mut Y,

@@ -65,9 +65,11 @@ pub trait Json: Drop {
     /// The message of a text, which is one value.
     ///
     /// # Errors
-    /// `BadJson` exactly where the text is not UTF-8, is not one value of JSON that nests no deeper
-    /// than 127, has a number that is no whole number of 64 bits, or is not the message; and
-    /// `OutOfMemory`.
+    /// `OutOfMemory`, or `BadJson` exactly if one of these holds:
+    /// - the text is not UTF-8;
+    /// - it is not one value of JSON that nests no deeper than 127;
+    /// - a number in it is no whole number of 64 bits;
+    /// - the value is not the message.
     final fn from_json(alloc: Global, text: &[u8]) -> Result<Self, ProtoError>
         ensures exact { Reads BadJson result (message_of form text.now) }
     {

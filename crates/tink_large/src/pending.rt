@@ -22,7 +22,7 @@ pub struct Pending {
 impl Pending {
     ghost use Rattle.tink_large.specs.Coming.{pending_bytes};
 
-    /// An empty one with room for so many bytes.
+    /// An empty one with room for this number of bytes.
     ///
     /// # Errors
     /// `OutOfMemory`.

@@ -1,4 +1,4 @@
-//! What is told of a large text, in lines.
+//! The facts of a large text, in lines.
 
 ghost use Rattle.std.specs.Prelude.{◌≡◌, IfOk, IfErr};
 ghost use Rattle.tink_io.specs.declared.error.Kind.TheVariants.{OutOfMemory};

@@ -1,5 +1,5 @@
-//! The primitives, each by its meaning: for the arguments of a call the one answer, a value or a kind, and for a call
-//! that draws the draws that are then left. `OutOfMemory` alone is no part of a meaning.
+//! The primitives, each by its meaning. For the arguments of a call it is the one answer, a value or a kind. For a call
+//! that draws it is the draws then left too. `OutOfMemory` alone is no part of a meaning.
 
 ghost use Rattle.std.specs.Prelude.{List, ℕ, Result};
 ghost use Rattle.tink_io.specs.declared.error.Kind.{Kind};

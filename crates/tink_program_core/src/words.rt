@@ -283,7 +283,7 @@ fn read_rewrap(alloc: Global, words: &[String]) -> Result<(Parsed, Seed), Unread
     }
 }
 
-/// The number that a word writes as it is printed, in decimal digits with no zero before them, of at most so many.
+/// The number that a word writes as it is printed: at most this many decimal digits, with no zero before them.
 ///
 /// # Errors
 /// `OutOfMemory`.

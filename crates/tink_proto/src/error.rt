@@ -1,4 +1,4 @@
-//! Why a message could not be had.
+//! Why a message was not read, or not copied.
 
 ghost use Rattle.std.specs.Prelude.{◌≡◌};
 ghost use Rattle.tink_proto.specs.declared.error.ProtoError.TheVariants.{OutOfMemory};

@@ -80,8 +80,8 @@ pub trait Message: Drop {
     /// The message that the bytes spell. Unknown fields are skipped.
     ///
     /// # Errors
-    /// `BadMessage` exactly where the bytes spell no fields, or where the message has one of them with another type, a
-    /// text of it is not UTF-8, or a body of it is not such a message; and `OutOfMemory`.
+    /// `BadMessage` exactly if the bytes spell no fields, or one of them does not fit. A field does
+    /// not fit if it has another type, its text is not UTF-8, or its body is not the message. `OutOfMemory`.
     final fn decode(alloc: Global, bytes: &[u8]) -> Result<Self, ProtoError>
         ensures exact { Reads BadMessage result (decoded table.read bytes.now) }
 

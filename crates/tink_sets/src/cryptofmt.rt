@@ -1,4 +1,4 @@
-//! What stands before what a key makes.
+//! The output prefixes of keys.
 
 ghost use Rattle.std.specs.Prelude.{◌≡◌, Ok};
 ghost use Rattle.std.specs.Int.{w32, to_be_bytes};

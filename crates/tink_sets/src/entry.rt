@@ -16,7 +16,7 @@ use tink_proto::{Bytes, Key, KeyStatusType, OutputPrefixType};
 pub struct Entry<K: Kinds> {
     pub key_id: KeyId,
     pub primitive: Primitive<K>,
-    /// What stands before what the key makes.
+    /// The output prefix of the key.
     pub prefix: Bytes,
     pub prefix_type: OutputPrefixType,
     pub status: KeyStatusType,
@@ -45,7 +45,7 @@ impl<K: Kinds> Entry<K> {
 pub struct TypedEntry<P> {
     pub key_id: KeyId,
     pub primitive: P,
-    /// What stands before what the key makes.
+    /// The output prefix of the key.
     pub prefix: Bytes,
     pub prefix_type: OutputPrefixType,
     pub status: KeyStatusType,

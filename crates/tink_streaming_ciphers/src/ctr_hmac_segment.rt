@@ -56,8 +56,8 @@ impl Model for CtrHmacSegment {
 }
 
 impl CtrHmacSegment {
-    /// Segments under an AES key of 16 or 32 bytes and an HMAC key of 32, with tags of `tag_size`
-    /// bytes: ten at least and a digest of `tag_hash` at most.
+    /// Segments under an AES key of 16 or 32 bytes and an HMAC key of 32. Tags have `tag_size` bytes: ten at
+    /// least and a digest of `tag_hash` at most.
     pub fn new(aes_key: &[u8], hmac_key: &[u8], tag_hash: Hash, tag_size: usize) -> CtrHmacSegment
         requires aes_key { (length aes_key.now ≡ 16) ⊎ (length aes_key.now ≡ 32) }
         requires hmac_key { length hmac_key.now ≡ 32 }

@@ -11,8 +11,8 @@ use tink_io::{Source, TinkError};
 use tink_primitives::DecryptingRead;
 use tink_streaming_segment::{Opener, SegmentDecrypter, check_sizes};
 
-/// The parts of a reader: a source, the one-shot map of its segments, the size and the prefix of nonces, the
-/// size of a segment, and the bytes that the first segment is shorter. Sizes are in bytes.
+/// The parts of a reader. They are a source, the one-shot map of its segments, the size and the prefix of
+/// nonces, the size of a segment, and the offset of the first. Sizes are in bytes.
 #[derive(Drop)]
 pub struct ReaderParams<R, D: SegmentDecrypter> {
     pub r: R,

@@ -67,7 +67,7 @@ pub trait SegmentEncrypter {
     }
 }
 
-/// So many zeros, in memory for no more.
+/// `n` zeros, in memory for no more.
 ///
 /// # Errors
 /// `OutOfMemory`.

@@ -5,8 +5,8 @@
 ghost use Rattle.std.specs.Prelude.{◌≡◌, None};
 ghost use Rattle.wire_format.specs.Values.{or_start};
 
-/// Takes the message that a further body of its field is merged into: the one that stands there, or the empty one
-/// (protobuf, "Encoding", on the last one of a field). None stands there after it.
+/// Takes the message into which a further body of its field is merged: the field's message, or the empty one
+/// (protobuf, "Encoding", on the last one of a field). The field then has none.
 pub fn take_or_start<M: Drop>(slot: &mut Option<M>, start: M) -> M
     ensures value { result ≡ or_start start slot.old }
     ensures taken { slot.new ≡ None }

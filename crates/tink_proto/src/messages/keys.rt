@@ -7,10 +7,10 @@ use crate::wire::{
 use crate::{Bytes, ProtoError, Repeated, Text};
 use std::alloc::{AllocError, Global};
 
-/// Keys, of which one is the primary.
+/// Keys, and the id of the primary one.
 #[derive(Drop)]
 pub struct Keyset {
-    /// The id of the key that makes what is new.
+    /// The id of the key that encrypts, signs or computes.
     pub primary_key_id: u32,
     pub key: Repeated<Key>,
 }

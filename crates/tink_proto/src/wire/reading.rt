@@ -89,8 +89,8 @@ fn content_from(wire_type: u64, bytes: &[u8]) -> Option<(Content<'_>, &[u8])>
     None
 }
 
-/// The first field, and what follows. `None` where no field of the grammar stands in front: it is cut off, its number
-/// is 0, its key is 2^32 or more, or its type is 3, 4, 6 or 7.
+/// The first field, and what follows. `None` if the bytes begin with no field of the grammar. It is cut off, its
+/// number is 0, its key is 2^32 or more, or its type is 3, 4, 6 or 7.
 #[tactic(auto, unfolding(wire_format::specs::Reading::field_at))]
 pub fn next_field(bytes: &[u8]) -> Option<(Field<'_>, &[u8])>
     ensures { MatchOption result (field_at bytes.now ≡ None)
