@@ -13,8 +13,8 @@ const INNER_PAD: u8 = 0x36;
 
 const OUTER_PAD: u8 = 0x5c;
 
-/// A key of HMAC under a hash. It is kept as the states of the hash after its two padded blocks (6). So a tag costs
-/// no compressions beyond those of its text and of one digest.
+/// A key of HMAC (FIPS 198-1) under a hash. It is kept as the states of the hash after its two padded blocks
+/// (section 6). So a tag costs no compressions beyond those of its text and of one digest.
 ///
 /// A contract says by `IsHmacKey` which key it is of.
 #[derive(Drop)]

@@ -40,7 +40,7 @@ pub fn law_aes_ctr()
 /// A MAC follows AES in counter mode with vectors of at most 16 bytes. It gives each message one tag of one size and
 /// accepts that alone, as HMAC does. With data of fewer than 2^61 bytes, they accept exactly the outputs of the
 /// cipher for some text with their tags. Each is decrypted to its text. They decrypt what they encrypt. If as many
-/// draws are left as a vector has bytes, they encrypt each text with data of that size.
+/// draws are left as a vector has bytes, they encrypt each text, with data of fewer than 2^61 bytes.
 pub fn law_aes_ctr_then_mac()
     ensures accepts { ComposedAcceptsExactly }
     ensures undoes { ComposedUndoes }

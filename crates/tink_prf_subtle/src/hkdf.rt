@@ -16,8 +16,8 @@ use tink_proto::{Bytes, HashType};
 // Larger than the least size of other keys: a pseudorandom function may have many users.
 const MIN_HKDF_KEY_SIZE_IN_BYTES: usize = 32;
 
-/// HKDF with a hash, from a key and under a salt, which contracts see as these three. An output is HKDF's with the
-/// input as its info, at most 255 digests.
+/// HKDF (RFC 5869) with a hash, from a key and under a salt. A contract sees these three. An output is HKDF's with
+/// the input as its info, at most 255 digests.
 #[derive(Drop)]
 pub struct HkdfPrf {
     hash: Hash,

@@ -21,8 +21,8 @@ pub const AES_CTR_HMAC_KEY_SIZE_IN_BYTES: usize = 32;
 // The bytes of the largest tag.
 const MAX_TAG: usize = 64;
 
-/// Segments in counter mode, with the first bytes of an HMAC over nonce and ciphertext behind the
-/// ciphertext.
+/// Segments in AES counter mode (SP 800-38A, section 6.5). Behind the ciphertext are the first bytes of an
+/// HMAC (FIPS 198-1) over nonce and ciphertext.
 ///
 /// A contract sees the two keys, the hash and the tag's bytes.
 #[derive(Drop)]

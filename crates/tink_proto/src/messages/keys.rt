@@ -7,7 +7,7 @@ use crate::wire::{
 use crate::{Bytes, ProtoError, Repeated, Text};
 use std::alloc::{AllocError, Global};
 
-/// Keys, and the id of the primary one.
+/// A keyset: keys, and the id of the primary one.
 #[derive(Drop)]
 pub struct Keyset {
     /// The id of the key that encrypts, signs or computes.
