@@ -2,28 +2,27 @@
 
 ghost use Rattle.loading_model.specs.Rotation.{EditedLoads, HasItsPlace, LoadsAlone, OpeningStays, StaysChosen, StaysChosenByAll, StreamsOutlive, StreamsOutliveById, StreamsStay};
 
-/// The bytes of the keyset that any commands make load as this keyset, where it fits the wire format, as every keyset
-/// does that was encoded.
+/// If the keyset that any commands make fits the wire format, its bytes load as this keyset. Every keyset that was
+/// encoded fits it.
 #[tactic(auto, using(crate::proofs::RotationFacts::edited_loads))]
 pub fn law_edited_loads()
     ensures { EditedLoads }
 {}
 
-/// Of a keyset that loads, the key that is chosen for a stream is the first in order that is enabled and under which the
-/// stream begins.
+/// If a keyset loads, the key that is chosen for a stream is the first enabled one under which the stream begins.
 #[tactic(auto, using(crate::proofs::ChoosingFacts::has_its_place))]
 pub fn law_chosen_place()
     ensures { HasItsPlace }
 {}
 
-/// Of a keyset that loads, the key that is chosen for a stream is by itself a keyset that loads, and is then the one
-/// key that may be chosen.
+/// If a keyset loads, the key that is chosen for a stream is by itself a keyset that loads. It is then the one key
+/// that may be chosen.
 pub fn law_chosen_alone()
     ensures { LoadsAlone }
 {}
 
-/// If commands only add keys, rotate or choose the primary key, and the keyset loads before and after, each stream
-/// opens to the text that it opened to.
+/// If commands only add keys, rotate or choose the primary key, each stream opens to the text that it opened to.
+/// The premise: the keyset loads before and after.
 #[tactic(auto, using(crate::proofs::RotationFacts::streams_stay))]
 pub fn law_streams_stay()
     ensures { StreamsStay }

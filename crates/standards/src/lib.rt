@@ -1,5 +1,5 @@
-//! Definitions of public standards, for contracts to cite, and the one step of theirs that is code here: a block with
-//! zeros behind a part of it.
+//! Definitions of public standards, for contracts to cite. One step of theirs is code here: a block with zeros behind
+//! a part of it.
 #![tactic(auto)]
 
 ghost use Rattle.std.specs.Prelude.{◌≡◌, ◌<◌, ◌*◌, length};

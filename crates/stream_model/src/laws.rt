@@ -6,7 +6,7 @@ ghost use Rattle.stream_model.specs.Order.{ChooseTheSame};
 
 /// No block is used twice in one stream, of either kind of keys. Two blocks that are asked for under one prefix are
 /// equal only if they are the same block of the same segment, number and mark. By GCM the block 0 of a segment
-/// covers its tag, so that it is no other one's block, and none is the zero block, which makes the hash key.
+/// covers its tag, so it is no other one's block. None is the zero block, which makes the hash key.
 #[tactic(auto, using(crate::proofs::BlockFacts::asks_for_its_own, crate::proofs::BlockFacts::blocks_differ, crate::proofs::BlockFacts::stream_blocks_differ, crate::proofs::BlockFacts::none_is_zero))]
 pub fn law_counter_blocks()
     // Sealing a segment asks for its own blocks alone, and by GCM for the zero block.

@@ -23,8 +23,12 @@ use tink_streaming_aead::StreamKinds;
 /// The AEAD of a key's bytes in the wire format.
 ///
 /// # Errors
-/// The first that applies: `InvalidKey` if there are no bytes or they are not the message of the type; what the type
-/// refuses of the key; `WrongPrimitive` if the primitive is no AEAD. `OutOfMemory`.
+/// The first that applies:
+/// - `InvalidKey` if there are no bytes or they are not the message of the type;
+/// - those of the type for the key;
+/// - `WrongPrimitive` if the primitive is no AEAD.
+///
+/// `OutOfMemory`.
 pub fn build_aead<T: KeyType<Family = AeadKinds>>(
     alloc: Global,
     key: &[u8],
@@ -119,8 +123,8 @@ pub fn build_deterministic_aead<T: KeyType<Family = DaeadKinds>>(
 /// The bytes of a new key in the wire format, of a format in the wire format.
 ///
 /// # Errors
-/// `InvalidFormat` if there are no bytes or they are not the format of the type; then what the type refuses of the
-/// format, or of the random bytes left. `OutOfMemory`.
+/// `InvalidFormat` if there are no bytes or they are not the format of the type. Then those of the type for the
+/// format and the random bytes left. `OutOfMemory`.
 pub fn make<T: KeyType>(alloc: Global, format: &[u8], draws: &mut Draws) -> Result<Bytes, TinkError>
     ensures { Replies result (makes T.Key.table T.Format.table T.made format.now draws.old) draws.old draws.new }
 {

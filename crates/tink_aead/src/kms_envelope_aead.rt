@@ -27,8 +27,8 @@ const LEN_DEK: usize = 4;
 // More bytes than a length of four bytes counts.
 const TOO_LONG: usize = 1 << 32;
 
-/// An AEAD by a remote one. What it makes of a text is the length of an encrypted data key in four
-/// bytes, high byte first, that key, and what the key encrypts the text to. Each text has a new
+/// An AEAD by a remote one. Its ciphertext has three parts. They are the length of an encrypted data key in
+/// four bytes, high byte first, this encrypted key, and the text encrypted by the key. Each text has a new
 /// data key, by a template of the registry's.
 #[derive(Drop)]
 pub struct KmsEnvelopeAead<'r, A, M> {

@@ -9,8 +9,8 @@ use crate::{AesCtrHmacAeadKeyManager, AesGcmKeyManager, AesGcmSivKeyManager};
 use tink_primitives::{Aead, Kinds};
 use tink_registry::KeyManager;
 
-/// What keys of AES in counter mode with HMAC build accepts exactly the encryptions of some text, each as that of its
-/// text, and decrypts again what it encrypts.
+/// A key of AES in counter mode with HMAC builds an AEAD. It accepts exactly the encryptions of some text, each as
+/// that of its text. It decrypts what it encrypts.
 pub fn law_aes_ctr_hmac()
     ensures built { KeysBuildWhole }
     ensures accepts { WholeAccepts }

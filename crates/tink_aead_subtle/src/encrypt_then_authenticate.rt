@@ -18,8 +18,8 @@ const MIN_TAG_SIZE: usize = 10;
 const TOO_MUCH_DATA: usize = 1 << 61;
 
 /// An AEAD by a cipher and a MAC (draft-mcgrew-aead-aes-cbc-hmac-sha2-05, section 2.1). Its ciphertext is the
-/// cipher's output and a tag of `tag_size` bytes. The tag is the MAC of three parts: the associated data, the
-/// cipher's output, and the number of bits of the data in eight bytes, high byte first.
+/// cipher's output and a tag of `tag_size` bytes. The tag is the MAC of the associated data, the cipher's
+/// output, and the data's length in bits in eight bytes, high byte first.
 #[derive(Drop)]
 pub struct EncryptThenAuthenticate<C, M> {
     ind_cpa_cipher: C,
@@ -126,10 +126,9 @@ impl<C: IndCpaCipher, M: Mac> Aead for EncryptThenAuthenticate<C, M> {
     }
 
     /// # Errors
-    /// `TooShort` where the ciphertext has fewer than `tag_size` bytes, else `DataTooLong` as where
-    /// it encrypts, else `MacMismatch` where the MAC does not accept the tag, else the cipher's
-    /// refusals. `OutOfMemory` may come in place of each. A text is given only where the MAC accepts
-    /// the tag.
+    /// `TooShort` if the ciphertext has fewer than `tag_size` bytes. Else `DataTooLong` as for encryption.
+    /// Else `MacMismatch` if the MAC does not accept the tag. Else those of the cipher. `OutOfMemory` may
+    /// come in place of each. A text is given only where the MAC accepts the tag.
     fn decrypt(
         &self,
         alloc: Global,

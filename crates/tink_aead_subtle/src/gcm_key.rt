@@ -54,9 +54,12 @@ impl GcmKey {
     /// Draws a nonce of 12 bytes. The answer is the nonce, the ciphertext under it and a tag of 16 bytes.
     ///
     /// # Errors
-    /// The first that applies: `DataTooLong` if the associated data have more than 2^36 bytes; `TextTooLong` if the
-    /// plaintext has more than AES-GCM takes; `RandomFault` if fewer than 12 random bytes are left. `OutOfMemory`. No
-    /// random bytes are taken then.
+    /// The first that applies:
+    /// - `DataTooLong` if the associated data have more than 2^36 bytes;
+    /// - `TextTooLong` if the plaintext has more bytes than AES-GCM takes;
+    /// - `RandomFault` if fewer than 12 random bytes are left.
+    ///
+    /// `OutOfMemory`. No random bytes are taken then.
     pub fn encrypt(
         &self,
         alloc: Global,

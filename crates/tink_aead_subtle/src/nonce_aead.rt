@@ -203,9 +203,12 @@ fn seal_behind<A: NonceAead>(
 /// Draws a nonce of 12 bytes, last. The answer is the nonce, the ciphertext under it and a tag of 16 bytes.
 ///
 /// # Errors
-/// The first that applies: `DataTooLong` if the associated data have more than 2^36 bytes; `TextTooLong` if the
-/// plaintext has more than `most_text` bytes; `RandomFault` if fewer than 12 random bytes are left. `OutOfMemory`. No
-/// random bytes are taken then.
+/// The first that applies:
+/// - `DataTooLong` if the associated data have more than 2^36 bytes;
+/// - `TextTooLong` if the plaintext has more than `most_text` bytes;
+/// - `RandomFault` if fewer than 12 random bytes are left.
+///
+/// `OutOfMemory`. No random bytes are taken then.
 pub fn encrypt<A: NonceAead>(
     aead: &A,
     alloc: Global,

@@ -15,8 +15,8 @@ use tink_io::{Kind, TinkError};
 use tink_sets::cryptofmt::NON_RAW_PREFIX_SIZE;
 use tink_sets::{TypedEntry, TypedPrimitiveSet};
 
-/// What each entry of a set is asked about an input without its prefix, as whether a MAC is accepted or what a
-/// ciphertext opens to.
+/// A question to each entry of a set about an input without its prefix. Examples: whether a MAC is accepted,
+/// which text a ciphertext opens to.
 pub trait Question<P> {
     /// What an entry gives that accepts.
     type Answer: Drop;

@@ -22,8 +22,8 @@ use tink_system::{How, System, Trouble};
 /// `new TEMPLATE -o KEYS`: a file of one new key.
 ///
 /// # Errors
-/// 24 if no template has the name; 35 if the system gives no random bytes; 12 if a file has the name, or it cannot be
-/// written; 10. No file is changed then.
+/// 24 if no template has the name. 35 if the system gives no random bytes. 12 if a file has the name, or it cannot be
+/// written. 10. No file is changed then.
 pub fn make<'w, Y: System, K: Sink>(
     alloc: Global,
     system: &mut Y,

@@ -28,8 +28,8 @@ pub enum Task<'k> {
 }
 
 /// Writes what a task makes of a source's bytes, and answers the report of a stream; a token has none. `aad` is the
-/// associated data of the stream that is sealed, opened or moved, and is not looked at for a token; only a stream that
-/// is made takes draws.
+/// associated data of the stream that is sealed, opened or moved. It is not read for a token. Only a stream that is
+/// made takes draws.
 ///
 /// # Errors
 /// Those of `run` of `tink_run`, `rewrap` of `tink_rewrap`, or `write_token` or `write_payload` of

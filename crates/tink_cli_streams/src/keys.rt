@@ -32,8 +32,8 @@ pub struct KeyWords<'w> {
 ///
 /// # Errors
 /// Status 11 if a file is not there or cannot be read. 13, 14, 30 if it is no file of keys, or has more than
-/// 16,777,216 bytes. With a master, 15 to 18 if the master keyset does not load as AEADs, and 34 if none of its keys
-/// decrypts the wrapped file. 10.
+/// 16,777,216 bytes. With a master, 15 to 18 if it does not load as AEADs, and 34 if none of its keys decrypts the
+/// wrapped file. 10.
 pub fn keyset_of<'w, Y: System>(
     alloc: Global,
     system: &mut Y,

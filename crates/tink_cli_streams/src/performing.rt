@@ -18,8 +18,8 @@ pub const DRAWN: usize = 1024;
 /// Does a task of the job's input, under a keyset and the job's associated data, to the job's output.
 ///
 /// # Errors
-/// Those of the task by their statuses; 11 if the input cannot be read, 12 if the output cannot be written, 35 if the system
-/// gives no random bytes; 10. No file is changed then.
+/// Those of the task by their statuses. 11 if the input cannot be read. 12 if the output cannot be written. 35 if the
+/// system gives no random bytes. 10. No file is changed then.
 pub fn perform<'w, Y: System, K: Sink>(
     alloc: Global,
     system: &mut Y,

@@ -8,8 +8,8 @@ use crate::AesSivKeyManager;
 use tink_primitives::{DeterministicAead, Kinds};
 use tink_registry::KeyManager;
 
-/// The AES-SIV keys of a keyset decrypt an input to a text exactly if the first key that accepts encrypts the text to
-/// what it tries. It tries the rest behind its prefix, or the whole if it has no prefix.
+/// A keyset's AES-SIV keys decrypt an input to a text exactly if the first key that accepts encrypts the text to what
+/// it tries. It tries the rest behind its prefix, or the whole if it has no prefix.
 pub fn law_keysets_decrypt_exactly()
     ensures { KeysetsDecryptExactly }
 {}

@@ -13,8 +13,8 @@ use std::alloc::Global;
 /// The bytes of the memory that `room` gives.
 pub const ROOM: usize = 65_536;
 
-/// A sink for small pieces over a sink that it is lent: they may wait, in a vector that it is lent too, before they are
-/// handed on. If it is dropped, the bytes that still wait are lost: `flush` comes before.
+/// A sink for small pieces over a sink that it is lent. They may wait, in a vector that it is lent too, before they
+/// are handed on. If it is dropped, the bytes that still wait are lost: `flush` comes before.
 #[derive(Drop)]
 pub struct Gathered<'a, K> {
     pub sink: &'a mut K,
@@ -37,8 +37,8 @@ impl<'a, K: Sink> Gathered<'a, K> {
     /// Hands on all that waits. Where nothing waits the sink is as before.
     ///
     /// # Errors
-    /// WriteFault where the sink failed: it has got a prefix of what waited, and exactly the rest waits still, so that a
-    /// further flush sends it.
+    /// `WriteFault` if the sink failed. It has got a prefix of the bytes that waited, and exactly the rest waits
+    /// still. A further flush sends it.
     pub fn flush(&mut self) -> Result<(), TinkError>
         ensures sent { OnOk result (Keeps (append_known (K.got self.old.sink.now) self.old.waiting.now.items)
             (K.got self.new.sink.now)) }

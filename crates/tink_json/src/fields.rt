@@ -61,8 +61,8 @@ pub fn text_in(alloc: Global, object: &Value, camel: &str, snake: &str) -> Resul
     }
 }
 
-/// The bytes of a member, which has either name and is in base 64 with padding (RFC 4648, section 4); none if there is
-/// no member, or it is null.
+/// The bytes of a member, which has either name; none if there is no member, or it is null. They are in base 64 with
+/// padding (RFC 4648, section 4).
 ///
 /// # Errors
 /// `BadJson` exactly if the member is no string of base 64, or `OutOfMemory`.

@@ -1,5 +1,5 @@
-//! The parts of calls on keysets: their validation, adding a key under a fresh id, encryption by a master, the
-//! keyset info, readers and writers, and laws over commands.
+//! The parts of calls on keysets: validation, adding a key under a fresh id, encryption by a master, keyset
+//! info. Readers and writers, and laws over commands.
 #![tactic(auto)]
 
 mod adding;

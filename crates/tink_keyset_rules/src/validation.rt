@@ -40,7 +40,7 @@ pub fn validate(keyset: &Keyset) -> Result<(), TinkError>
     Ok(())
 }
 
-/// Validates a key: it has data unless it is destroyed, its id isn't 0, its prefix type is from 1 to 4 and
+/// Validates a key. It has data unless it is destroyed. Its id is not 0, its prefix type is from 1 to 4 and
 /// its status from 1 to 3.
 ///
 /// # Errors

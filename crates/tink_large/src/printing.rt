@@ -9,7 +9,7 @@ use std::alloc::Global;
 use tink_io::TinkError;
 
 /// Four lines: `text` and the bytes of the text, `stream` and those of the stream, `segments` and their
-/// number, `sha256` and the digest of the stream in lower-case hexadecimal digits.
+/// number. `sha256` and the digest of the stream in lower-case hexadecimal digits.
 ///
 /// # Errors
 /// `OutOfMemory` alone.

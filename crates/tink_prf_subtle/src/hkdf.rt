@@ -60,8 +60,8 @@ impl HkdfPrf {
 /// Whether Tink makes HKDF keys of this hash and this size in bytes, under any salt.
 ///
 /// # Errors
-/// `BadKeySize` exactly where the size is under 32; then `UnknownHash` exactly for the unknown hash; then
-/// `UnsupportedHash` exactly where the hash is neither SHA-256 nor SHA-512.
+/// `BadKeySize` exactly if the size is under 32. Then `UnknownHash` exactly for the unknown hash. Then
+/// `UnsupportedHash` exactly if the hash is neither SHA-256 nor SHA-512.
 pub fn validate_hkdf_prf_params(
     hash: HashType,
     key_size: usize,

@@ -1,13 +1,13 @@
 //! What `run` opens after a keyset was edited, and that it opens as under the chosen key alone. These functions do
 //! nothing: their contracts are the laws.
 //!
-//! Each call of a `Manager` is the command of its name on the keyset and the draws (`edit` of keyset_model; `add` as
-//! the primary key is `Rotate`). So calls one after another make `after_all` of them. `handle` gives a handle of that
-//! keyset, `insecure::keyset_material` its message, and `encode` the message's bytes, where it fits the wire format.
-//! Under these bytes `run` opens a stream as its contract says; what that is for the edited keyset, the laws here say.
-//! That an id that is added is new, and that a refused command leaves the keyset, are laws of tink_keysets
-//! (`law_fresh_id`, `law_refused_adding`, `law_refused_command`). What commands leave of a stream's opening, by any
-//! rows of types of keys, are laws of loading_model.
+//! Each call of a `Manager` is the command of its name on the keyset and the draws. `edit` of keyset_model defines it,
+//! and `add` as the primary key is `Rotate`. So calls one after another make `after_all` of them. `handle` gives a
+//! handle of that keyset, `insecure::keyset_material` its message, and `encode` the message's bytes, where it fits the
+//! wire format. Under these bytes `run` opens a stream as its contract says; what that is for the edited keyset, the
+//! laws here say. That an id that is added is new, and that a refused command leaves the keyset, are laws of
+//! tink_keysets (`law_fresh_id`, `law_refused_adding`, `law_refused_command`). What commands leave of a stream's
+//! opening, by any rows of types of keys, are laws of loading_model.
 
 ghost use Rattle.tink_run.specs.Fitting.{KeepsFit};
 ghost use Rattle.tink_run.specs.OneKey.{OpensAsOneKey, RunOpensAlone};
@@ -27,8 +27,8 @@ pub fn law_edited_fits()
     ensures { KeepsFit }
 {}
 
-/// If a stream opened before a list of commands, and the edited keyset fits the wire format and loads, `run` opens
-/// the stream under its encoding to the same text.
+/// A stream opens, and then commands edit the keyset. If the edited keyset fits the wire format and loads, `run`
+/// opens the stream under its encoding to the same text.
 pub fn law_run_opens_after_rotation()
     // Where each command adds a key, rotates or chooses the primary key.
     ensures adding { RunOpensAfterAdding }
@@ -41,8 +41,8 @@ pub fn law_run_opens_after_rotation()
     ensures ids { RunOpensById }
 {}
 
-/// If the bytes of a stream are known, and one key is the first under which it begins, it is opened as under this key
-/// alone. The answer and what was written are the same, whatever other keys were tried and however large their
+/// The bytes of a stream are known, and one key is the first under which it begins. Then it is opened as under this
+/// key alone. The answer and what was written are the same, whatever other keys were tried and however large their
 /// segments are. That this key is by itself a keyset that loads is a law of loading_model (`law_chosen_alone`).
 pub fn law_one_key()
     ensures keys { OpensAsOneKey }

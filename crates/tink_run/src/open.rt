@@ -28,9 +28,9 @@ use tink_streaming_aead::{
 /// the stream were written then, and by `WriteFault` a prefix of these texts.
 ///
 /// At most a byte more was read than the longest output prefix and segment of the keys have together. This
-/// counts from the stream's beginning if no key was chosen, from the beginning of the chunk that was refused,
-/// or else from behind the chunks of those texts. By `ReadFault` it was no more than one chunk behind them:
-/// no text was lost but perhaps the first or that of the last segment.
+/// counts from the stream's beginning if no key was chosen, and from the beginning of the chunk that was
+/// refused. Else it counts from behind the chunks of those texts. By `ReadFault` it was no more than one
+/// chunk behind them: no text was lost but perhaps the first or that of the last segment.
 pub fn open<S: Source, K: Sink>(
     alloc: Global,
     set: &TypedPrimitiveSet<StreamKind>,

@@ -133,8 +133,8 @@ impl<S: Source + Drop> DecryptReader<S> {
     /// longest front and a byte. It keeps no more memory than it has.
     ///
     /// # Errors
-    /// `NoMatchingKey` where the stream begins under none of the keys; `ReadFault` where the source failed; those of
-    /// `Reader::read` behind the first segment; `FailedBefore` after another of these.
+    /// `NoMatchingKey` if the stream begins under none of the keys. `ReadFault` if the source failed. Those of
+    /// `Reader::read` behind the first segment. `FailedBefore` after another of these.
     pub fn read(&mut self, buf: &mut [u8]) -> Result<usize, TinkError>
         ensures answer { DecryptMeans S.left S.faults self.old self.new buf.old buf.new result }
         ensures within { IfOk result (λ n. n ≤ length buf.new) }

@@ -28,9 +28,9 @@ use tink_streaming_ciphers::{AES_CTR_HMAC_NONCE_SIZE_IN_BYTES, StreamSegment};
 use tink_streaming_io::Writer;
 use tink_streaming_keys::{DerivesStreams, StreamKind, Trial, new_encrypting_writer};
 
-/// The streaming AEADs of a keyset as one: streams are made by the primary key, and opened by the first of the keys under
-/// which they begin. A contract sees the primary key, which there is, and all keys, those of one prefix in their order;
-/// each has its output prefix before the header of its streams.
+/// The streaming AEADs of a keyset as one. The primary key encrypts streams, and the first of the keys under which
+/// they begin decrypts them. A contract sees the primary key, which there is, and all keys, those of one prefix in
+/// their order. Each has its output prefix before the header of its streams.
 #[derive(Drop)]
 pub struct WrappedStreamingAead {
     ps: TypedPrimitiveSet<StreamKind>,

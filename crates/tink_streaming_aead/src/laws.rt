@@ -20,8 +20,8 @@ ghost use Rattle.tink_streaming_aead.specs.WholeReading.{IsTextOfChosen, IsTextO
 use tink_io::Source;
 
 /// A new writer gets a text, cut into writes in any way, and is closed. It has then written exactly the stream of
-/// the text: the front under the first draws, and a segment for each chunk, the last one marked. One that is closed
-/// before any write has written the stream of the empty text.
+/// the text. That is the front under the first draws, and a segment for each chunk, the last one marked. One that
+/// is closed before any write has written the stream of the empty text.
 pub fn law_whole_stream()
     ensures whole { (k : StreamKey) (aad draws left : List ℕ) (before : Option (List ℕ))
         (seg : ℕ → Bool → List ℕ → List ℕ) (first later : ℕ) (m n o : WriterMoment) (text : List ℕ)

@@ -3,8 +3,8 @@ ghost use Rattle.stream_model.specs.Cut.{full_chunks, open_chunk, sealed, unmark
 ghost use Rattle.tink_streaming_io.specs.Full.{AreFull};
 ghost use Rattle.tink_streaming_io.specs.Writing.{WriterMoment, Wrote};
 
-/// A stream depends on its text alone, however the text is cut into writes: the writes of one text
-/// and then of another are the write of both at once.
+/// A stream depends on its text alone, however the text is cut into writes. The writes of one text and then
+/// of another are the write of both at once.
 pub fn law_any_cutting()
     ensures joined { (seg : ℕ → Bool → List ℕ → List ℕ) (first room : ℕ) (old between new : WriterMoment)
         (text more : List ℕ) → 0 < first → 0 < room → Wrote seg first room old between text

@@ -11,8 +11,8 @@ use tink_io::{Source, TinkError};
 use tink_primitives::DecryptingRead;
 use tink_streaming_segment::{Opener, SegmentDecrypter, check_sizes};
 
-/// The parts of a reader. They are a source, the one-shot map of its segments, the size and the prefix of
-/// nonces, the size of a segment, and the offset of the first. Sizes are in bytes.
+/// The parts of a reader. They are a source, the one-shot map of its segments, the size and prefix of nonces,
+/// a segment's size, and the offset of the first. Sizes are in bytes.
 #[derive(Drop)]
 pub struct ReaderParams<R, D: SegmentDecrypter> {
     pub r: R,
@@ -53,8 +53,8 @@ impl<R: Source + Drop, D: SegmentDecrypter + Drop> Reader<R, D> {
     /// nonce's size, where it is not too short, is that of the decrypter.
     ///
     /// # Errors
-    /// NonceTooShort where a nonce has not five bytes more than its prefix, OffsetTooBig where the
-    /// offset is beyond the segment, SegmentTooSmall where the first segment has no room for text.
+    /// `NonceTooShort` if a nonce has not five bytes more than its prefix. `OffsetTooBig` if the offset is
+    /// beyond the segment. `SegmentTooSmall` if the first segment has no room for text.
     pub fn new(params: ReaderParams<R, D>, buffers: Buffers) -> Result<Reader<R, D>, TinkError>
         requires text { buffers.text.items ≡ [] }
         requires text_room { params.ciphertext_segment_size < vec_capacity buffers.text }
@@ -133,9 +133,9 @@ impl<R: Source + Drop, D: SegmentDecrypter + Drop> Reader<R, D> {
     }
 
     /// Gives the next bytes of the text, as many as are opened and `buf` has room for, and answers
-    /// how many. Where no opened text is left, the next segment is opened first, for which no more is
-    /// read than its chunk and a byte behind it. `Ok(0)` comes on an empty buffer, which reads nothing,
-    /// and at the end, for good. It keeps the memory that it has.
+    /// how many. If no opened text is left, the next segment is opened first. For it no more is read than its
+    /// chunk and a byte behind it. `Ok(0)` comes on an empty buffer, which reads nothing, and at the end, for
+    /// good. It keeps the memory that it has.
     ///
     /// # Errors
     /// `ReadFault` if the source failed. `TooManySegments` if bytes follow the segment of number 2^32 - 1.

@@ -104,8 +104,8 @@ fn begins_front<D: SegmentDecrypter, T: OpensStreams<D>>(key: &T, held: &[u8]) -
 /// together.
 ///
 /// # Errors
-/// The memory of the prefix again, if the stream does not begin with an output prefix and a header of the key, or no
-/// keys are derived from the header.
+/// The memory of the prefix again. It comes if the stream does not begin with a front of the key, or no keys are
+/// derived from the front's header.
 pub fn front_opener<D: SegmentDecrypter + Drop, T: OpensStreams<D>>(
     key: &T,
     held: &[u8],

@@ -54,8 +54,8 @@ impl<W: Sink + Drop, E: SegmentEncrypter + Drop> Writer<W, E> {
     /// nonce's size, where it is not too short, is that of the encrypter.
     ///
     /// # Errors
-    /// NonceTooShort where a nonce has not five bytes more than its prefix, OffsetTooBig where the
-    /// offset is beyond the segment, SegmentTooSmall where the first segment has no room for text.
+    /// `NonceTooShort` if a nonce has not five bytes more than its prefix. `OffsetTooBig` if the offset is
+    /// beyond the segment. `SegmentTooSmall` if the first segment has no room for text.
     pub fn new(
         params: WriterParams<W, E>,
         buffers: WriterBuffers,

@@ -16,8 +16,8 @@ use tink_streaming_io::{Opener, front_opener};
 /// prefix.
 ///
 /// # Errors
-/// That memory again, if the stream does not begin with an output prefix and a header of the key, or no keys are
-/// derived from the header.
+/// That memory again. It comes if the stream does not begin with a front of the key, or no keys are derived from
+/// the front's header.
 pub fn opener_behind<T: DerivesStreams>(
     key: &T,
     held: &[u8],

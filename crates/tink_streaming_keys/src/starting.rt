@@ -19,8 +19,8 @@ use tink_streaming_ciphers::StreamSegment;
 use tink_streaming_io::{Begun, Buffers, Kept, SegmentReader, carry};
 use tink_streaming_segment::zeros;
 
-/// The memory for finding the key of a stream: the bytes that were read of its source and are kept, and
-/// memory for the largest of the keys.
+/// The memory for finding the key of a stream: the bytes read of its source, which are kept, and memory for
+/// the largest key.
 #[derive(Drop)]
 pub struct Trial {
     pub kept: Kept,

@@ -7,8 +7,8 @@ ghost use Rattle.tink_core_subtle.specs.Hashes.{hash_named};
 use hash_keys::Hash;
 use tink_proto::HashType;
 
-/// Whether a main key may have `main` bytes and the AES keys derived from it `derived` bytes: each 16 or 32, and
-/// `derived` no more than `main`.
+/// Whether a main key may have `main` bytes and the AES keys derived from it `derived` bytes. Each is 16 or 32,
+/// and `derived` is no more than `main`.
 pub fn are_key_sizes(main: usize, derived: u32) -> bool
     ensures { result ≡ building.are_key_sizes main derived }
 {

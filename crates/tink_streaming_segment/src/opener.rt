@@ -2,8 +2,8 @@ ghost use Rattle.std.specs.Prelude.{◌≡◌, ◌≤◌, ◌<◌, ◌+◌, ◌^
 
 use crate::segment_traits::SegmentDecrypter;
 
-/// How the segments of one stream are opened: the one-shot map, its nonces, and the sizes, in bytes
-/// of ciphertext, of the first and of each later segment.
+/// How the segments of one stream are opened: the one-shot map, its nonces, and the sizes of segments. These
+/// are of the first and of each later one, in bytes of ciphertext.
 #[derive(Drop)]
 pub struct Opener<D: SegmentDecrypter> {
     pub decrypter: D,

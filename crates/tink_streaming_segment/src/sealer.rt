@@ -2,8 +2,8 @@ ghost use Rattle.std.specs.Prelude.{◌≡◌, ◌≤◌, ◌<◌, ◌+◌, ◌^
 
 use crate::segment_traits::SegmentEncrypter;
 
-/// How the segments of one stream are made: the one-shot map, its nonces, and the rooms, in bytes
-/// of text, of the first and of each later segment.
+/// How the segments of one stream are made: the one-shot map, its nonces, and the rooms of segments. These
+/// are of the first and of each later one, in bytes of text.
 #[derive(Drop)]
 pub struct Sealer<E: SegmentEncrypter> {
     pub encrypter: E,

@@ -1,8 +1,8 @@
 //! Drafts that a run left which was cut off.
 //!
 //! A run holds the lock of its draft (`flock`) until it is shown or taken away, and the system ends the lock with the
-//! process. So a draft that can be locked is of no run any more, and is taken away. It is never emptied: after a run that was
-//! cut off between two steps it may be a second name of the file that was shown.
+//! process. So a draft that can be locked is of no run any more, and is taken away. It is never emptied. After a run
+//! that was cut off between two steps it may be a second name of the file that was shown.
 
 use crate::names::{Which, draft_name};
 use crate::notes::note;

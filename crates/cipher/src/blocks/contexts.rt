@@ -20,7 +20,7 @@ pub struct BlockCtx<'i, 'o, const B: usize> {
     pub input: &'i [[u8; B]],
 }
 
-/// The closure of a call on blocks, of a cipher or of a mode: it reads the input, or the output where the input has
+/// The closure of a call on blocks, of a cipher or of a mode. It reads the input, or the output if the input has
 /// another length.
 #[derive(Drop)]
 pub struct BlocksCtx<'i, 'o, const B: usize> {

@@ -54,8 +54,8 @@ pub fn wrapped(
     wrapped_text(alloc, format, &encrypted)
 }
 
-/// The keyset that a master decrypts of a file that `wrapped` made, or Tink, with the associated data, as a file of
-/// keys of this format.
+/// The keyset that a master decrypts with the associated data, as a file of keys of this format. `wrapped` or Tink
+/// made the encrypted file.
 ///
 /// # Errors
 /// If the file spells no encrypted keyset, `BadJson` if it is JSON by its first byte, and else `BadKeyset`. Then

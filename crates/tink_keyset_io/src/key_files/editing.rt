@@ -28,8 +28,8 @@ pub enum Edit {
 /// The valid keyset that bytes spell in the wire format, with the first key of the id changed.
 ///
 /// # Errors
-/// `BadKeyset` exactly where the bytes spell none, `InvalidKeyset` exactly where it is not valid; then those of the
-/// command of `Manager`; `OutOfMemory` may come in place of each.
+/// `BadKeyset` exactly if the bytes spell none, `InvalidKeyset` exactly if it is not valid. Then those of the
+/// command of `Manager`. `OutOfMemory` may come in place of each.
 pub fn edited(alloc: Global, keyset: &[u8], edit: Edit, id: u32) -> Result<Keyset, TinkError>
     ensures { Answers result (edited keyset.now edit id) }
 {

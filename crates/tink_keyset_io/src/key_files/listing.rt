@@ -17,8 +17,8 @@ const TINK: &[u8] = b"type.googleapis.com/google.crypto.tink.";
 /// type and type, and whether its id is the primary one. Tabs separate them.
 ///
 /// # Errors
-/// `BadKeyset` exactly where the bytes spell no keyset; `InvalidKeyset` exactly where it has no key or no handle may
-/// hold it; `OutOfMemory` may come in place of each.
+/// `BadKeyset` exactly if the bytes spell no keyset. `InvalidKeyset` exactly if it has no key or no handle may hold
+/// it. `OutOfMemory` may come in place of each.
 pub fn list(alloc: Global, keyset: &[u8]) -> Result<Bytes, TinkError>
     ensures { Answers result (listed keyset.now) }
 {

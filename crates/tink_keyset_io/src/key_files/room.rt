@@ -19,8 +19,8 @@ const MOST_MARKS: usize = 1048576;
 ///
 /// # Errors
 /// `KeysetTooLong` exactly if a file in the wire format has more than 65,536 keys, or one in JSON more than 1,048,576
-/// commas, colons and opening brackets. `BadKeyset` exactly if a file that is not JSON by its first byte spells no
-/// fields.
+/// marks. Marks are commas, colons and opening brackets. `BadKeyset` exactly if a file that is not JSON by its first
+/// byte spells no fields.
 pub fn check_room(file: &[u8]) -> Result<(), TinkError>
     ensures { Tells result (room_of file.now) }
 {

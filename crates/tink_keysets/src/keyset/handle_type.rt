@@ -65,9 +65,9 @@ impl Handle {
     /// A handle of the public parts of the keys, which must all be private.
     ///
     /// # Errors
-    /// For the first key that gives none: `InvalidKeyset` where it has no data; `NotPrivate` where its material isn't
-    /// 2; `UnsupportedKeyType` where no manager has its URL; `NoPrivateKeys` where the manager has no private keys;
-    /// else the manager's. `OutOfMemory` may come in place of each.
+    /// For the first key that gives none: `InvalidKeyset` if it has no data. `NotPrivate` if its material is not 2.
+    /// `UnsupportedKeyType` if no manager has its URL. `NoPrivateKeys` if the manager has no private keys. Else the
+    /// manager's. `OutOfMemory` may come in place of each.
     pub fn public<M: KeyManager>(
         &self,
         alloc: Global,

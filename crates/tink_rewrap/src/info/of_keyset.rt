@@ -13,8 +13,8 @@ use tink_run::load::load;
 
 /// The key and the sizes of the stream that `object` is, under a keyset in the wire format and the associated data.
 /// They are the key's id, the segments, the bytes of the plaintext and those of a whole segment. The key is the first
-/// under which the stream begins. Only the first and the last segment are opened, so that an object that was cut is
-/// refused, and what lies between them is not checked.
+/// under which the stream begins. Only the first and the last segment are opened. So an object that was cut is
+/// refused, and the segments between them are not checked.
 ///
 /// # Errors
 /// The first that applies: the refusals of loading the keyset, `BadKeyset`, `InvalidKeyset`, `UnsupportedKeyType`,

@@ -18,9 +18,9 @@ use tink_run::load::load;
 /// associated data. It answers how many.
 ///
 /// # Errors
-/// The first that applies: the refusals of loading the keyset, `BadKeyset`, `InvalidKeyset`, `UnsupportedKeyType`,
-/// `InvalidKey`, `NoPrimary` and `WrongPrimitive`, with nothing read or written; then those of `range_of_set`.
-/// `OutOfMemory` comes before anything was read or written.
+/// Those of loading the keyset, with nothing read or written: `BadKeyset`, `InvalidKeyset`, `UnsupportedKeyType`,
+/// `InvalidKey`, `NoPrimary` and `WrongPrimitive`. Then those of `range_of_set`. `OutOfMemory` comes before
+/// anything was read or written.
 pub fn run_range<A: ReadAt, K: Sink, L: Ledger>(
     alloc: Global,
     keyset: &[u8],

@@ -18,7 +18,8 @@ use tink_streaming_keys::{StreamKind, Trial};
 
 /// Writes a range of the text of the stream that `object` is: the bytes from place `start` on and below `start + len`
 /// that there are. The key is the first of the set under which the stream begins. It answers how many. At most a step
-/// is taken for each key and, where one is chosen, for each chunk that the range's own length fills and two more.
+/// is taken for each key. If one is chosen, at most a step more is taken for each chunk that the range's own length
+/// fills, and two more.
 ///
 /// # Errors
 /// - With nothing written: `OutOfMemory`, and nothing was read. `NoMatchingKey` if the object begins under no key.

@@ -33,9 +33,9 @@ use tink_streaming_keys::StreamKind;
 ///   read, written or drawn;
 /// - `UnsupportedHash` where the primary key's hash derives nothing, with the draws taken;
 /// - `NoMatchingKey` where the source begins under no key of `from`, with nothing written;
-/// - `TooManySegments` where the text needs more than 2^32 segments: the front and all of them but
-///   the last were written, up to the number 2^32 - 2;
-/// - `TooManySegments` if bytes follow 2^32 segments of the source, `Truncated` and `BadSegment` if a later
+/// - `TooManySegments` if the text needs more than 2^32 segments. The front and the segments up to the number
+///   2^32 - 2 were written then;
+/// - `TooManySegments` if bytes follow 2^32 segments of the source. `Truncated` and `BadSegment` if a later
 ///   segment is shorter than a tag or that of no text. The front and the unmarked segments of the text before
 ///   it were written then, and no last one.
 ///
