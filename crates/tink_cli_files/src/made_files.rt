@@ -85,7 +85,7 @@ pub fn added_file(
 /// The keyset of a file as a file of this format.
 ///
 /// # Errors
-/// The first that applies: If the file spells no keyset, `BadJson` exactly if it is JSON by its first byte, and else
+/// The first that applies: Exactly if the file spells no keyset, `BadJson` if it is JSON by its first byte, and else
 /// `BadKeyset`. `InvalidKeyset` exactly if the keyset is not valid. `OutOfMemory` may come in place of each.
 pub fn converted_file(alloc: Global, file: Vec<u8>, format: Format) -> Result<Bytes, TinkError>
     ensures { Answers result (converted_file file.items format) }

@@ -50,7 +50,7 @@ impl<P> TypedPrimitiveSet<P> {
     /// The set as one of the sort `S`.
     ///
     /// # Errors
-    /// `WrongPrimitive` if an entry or the primary entry is of another sort. `OutOfMemory`.
+    /// `WrongPrimitive` exactly if an entry or the primary entry is of another sort, or `OutOfMemory`.
     pub fn from_set_of_sort<K: Kinds, S: Sort<K, Of = P>>(
         alloc: Global,
         set: &PrimitiveSet<K>,
@@ -67,7 +67,7 @@ impl<P> TypedPrimitiveSet<P> {
     /// The set as one of AEADs.
     ///
     /// # Errors
-    /// `WrongPrimitive` if an entry or the primary entry is of another sort. `OutOfMemory`.
+    /// `WrongPrimitive` exactly if an entry or the primary entry is of another sort, or `OutOfMemory`.
     pub fn from_set_aead<K: Kinds<Aead = P>>(
         alloc: Global,
         set: PrimitiveSet<K>,
@@ -84,7 +84,7 @@ impl<P> TypedPrimitiveSet<P> {
     /// The set as one of deterministic AEADs.
     ///
     /// # Errors
-    /// `WrongPrimitive` if an entry or the primary entry is of another sort. `OutOfMemory`.
+    /// `WrongPrimitive` exactly if an entry or the primary entry is of another sort, or `OutOfMemory`.
     pub fn from_set_deterministic_aead<K: Kinds<DeterministicAead = P>>(
         alloc: Global,
         set: PrimitiveSet<K>,
@@ -101,7 +101,7 @@ impl<P> TypedPrimitiveSet<P> {
     /// The set as one of hybrid decryptions.
     ///
     /// # Errors
-    /// `WrongPrimitive` if an entry or the primary entry is of another sort. `OutOfMemory`.
+    /// `WrongPrimitive` exactly if an entry or the primary entry is of another sort, or `OutOfMemory`.
     pub fn from_set_hybrid_decrypt<K: Kinds<HybridDecrypt = P>>(
         alloc: Global,
         set: PrimitiveSet<K>,
@@ -118,7 +118,7 @@ impl<P> TypedPrimitiveSet<P> {
     /// The set as one of hybrid encryptions.
     ///
     /// # Errors
-    /// `WrongPrimitive` if an entry or the primary entry is of another sort. `OutOfMemory`.
+    /// `WrongPrimitive` exactly if an entry or the primary entry is of another sort, or `OutOfMemory`.
     pub fn from_set_hybrid_encrypt<K: Kinds<HybridEncrypt = P>>(
         alloc: Global,
         set: PrimitiveSet<K>,
@@ -135,7 +135,7 @@ impl<P> TypedPrimitiveSet<P> {
     /// The set as one of MACs.
     ///
     /// # Errors
-    /// `WrongPrimitive` if an entry or the primary entry is of another sort. `OutOfMemory`.
+    /// `WrongPrimitive` exactly if an entry or the primary entry is of another sort, or `OutOfMemory`.
     pub fn from_set_mac<K: Kinds<Mac = P>>(
         alloc: Global,
         set: PrimitiveSet<K>,
@@ -152,7 +152,7 @@ impl<P> TypedPrimitiveSet<P> {
     /// The set as one of pseudorandom functions.
     ///
     /// # Errors
-    /// `WrongPrimitive` if an entry or the primary entry is of another sort. `OutOfMemory`.
+    /// `WrongPrimitive` exactly if an entry or the primary entry is of another sort, or `OutOfMemory`.
     pub fn from_set_prf<K: Kinds<Prf = P>>(
         alloc: Global,
         set: PrimitiveSet<K>,
@@ -169,7 +169,7 @@ impl<P> TypedPrimitiveSet<P> {
     /// The set as one of signers.
     ///
     /// # Errors
-    /// `WrongPrimitive` if an entry or the primary entry is of another sort. `OutOfMemory`.
+    /// `WrongPrimitive` exactly if an entry or the primary entry is of another sort, or `OutOfMemory`.
     pub fn from_set_signer<K: Kinds<Signer = P>>(
         alloc: Global,
         set: PrimitiveSet<K>,
@@ -186,7 +186,7 @@ impl<P> TypedPrimitiveSet<P> {
     /// The set as one of streaming AEADs.
     ///
     /// # Errors
-    /// `WrongPrimitive` if an entry or the primary entry is of another sort. `OutOfMemory`.
+    /// `WrongPrimitive` exactly if an entry or the primary entry is of another sort, or `OutOfMemory`.
     pub fn from_set_streaming_aead<K: Kinds<StreamingAead = P>>(
         alloc: Global,
         set: PrimitiveSet<K>,
@@ -203,7 +203,7 @@ impl<P> TypedPrimitiveSet<P> {
     /// The set as one of verifiers.
     ///
     /// # Errors
-    /// `WrongPrimitive` if an entry or the primary entry is of another sort. `OutOfMemory`.
+    /// `WrongPrimitive` exactly if an entry or the primary entry is of another sort, or `OutOfMemory`.
     pub fn from_set_verifier<K: Kinds<Verifier = P>>(
         alloc: Global,
         set: PrimitiveSet<K>,

@@ -17,11 +17,11 @@ pub type Master = WrappedAead<AeadKind>;
 ///
 /// # Errors
 /// The first that applies:
-/// - if the file spells no keyset, `BadJson` if it is JSON by its first byte, and else `BadKeyset`;
-/// - `InvalidKeyset` if the keyset is not valid;
+/// - exactly if the file spells no keyset, `BadJson` if it is JSON by its first byte, and else `BadKeyset`;
+/// - `InvalidKeyset` exactly if the keyset is not valid;
 /// - `InvalidKey` or `UnsupportedKeyType` of the first enabled key that does not build;
 /// - `NoPrimary`;
-/// - `WrongPrimitive` if an enabled key is no AEAD.
+/// - `WrongPrimitive` exactly if an enabled key is no AEAD.
 ///
 /// `OutOfMemory` may come in place of each.
 pub fn load_master(alloc: Global, file: Vec<u8>) -> Result<Master, TinkError>

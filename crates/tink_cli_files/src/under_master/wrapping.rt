@@ -58,9 +58,10 @@ pub fn wrapped(
 /// made the encrypted file.
 ///
 /// # Errors
-/// If the file spells no encrypted keyset, `BadJson` if it is JSON by its first byte, and else `BadKeyset`. Then
-/// `MasterFailed` exactly if no key of the master decrypts it with this data. Then `BadKeyset` and `InvalidKeyset`
-/// exactly if the plaintext is no keyset that a handle may hold. `OutOfMemory` may come in place of each.
+/// Exactly if the file spells no encrypted keyset, `BadJson` if it is JSON by its first byte, and else
+/// `BadKeyset`. Then `MasterFailed` exactly if no key of the master decrypts it with this data. Then `BadKeyset`
+/// and `InvalidKeyset` exactly if the plaintext is no keyset that a handle may hold. `OutOfMemory` may come in
+/// place of each.
 pub fn unwrapped(
     alloc: Global,
     master: &Master,
