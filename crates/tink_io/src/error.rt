@@ -136,6 +136,7 @@ pub enum Cause {
 /// A refusal of a Tink crate: its kind and nothing else.
 #[derive(Clone, Copy, Debug, PartialEq, Eq)]
 pub struct TinkError {
+    /// Why the call was refused.
     pub kind: Kind,
 }
 

@@ -17,7 +17,9 @@ pub const ROOM: usize = 65_536;
 /// are handed on. If it is dropped, the bytes that still wait are lost: `flush` comes before.
 #[derive(Drop)]
 pub struct Gathered<'a, K> {
+    /// The sink that gets the pieces together.
     pub sink: &'a mut K,
+    /// The bytes that wait.
     pub waiting: &'a mut Vec<u8>,
 }
 

@@ -15,7 +15,9 @@ use std::mem;
 #[derive(Drop)]
 pub struct MemPlace {
     alloc: Global,
+    /// The bytes of the draft.
     pub draft: Vec<u8>,
+    /// Whether the draft is there.
     pub has_draft: bool,
     /// The file under the name.
     pub shown: Option<Vec<u8>>,
@@ -23,7 +25,9 @@ pub struct MemPlace {
     pub replaces: bool,
     /// Whether the draft may be shown.
     pub can_show: bool,
+    /// The bytes that the draft takes at most.
     pub room: usize,
+    /// How often it has failed.
     pub faults: u64,
     ghost fits: { vec_len draft ≤ room },
     ghost reserved: { room ≤ vec_capacity draft },

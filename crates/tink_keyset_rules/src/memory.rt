@@ -12,7 +12,9 @@ use tink_proto::{EncryptedKeyset, Keyset};
 /// A keyset and an encrypted keyset. Each may be absent. Reading copies, and writing replaces.
 #[derive(Default, Drop)]
 pub struct MemReaderWriter {
+    /// The keyset, if there is one.
     pub keyset: Option<Keyset>,
+    /// The encrypted keyset, if there is one.
     pub encrypted_keyset: Option<EncryptedKeyset>,
 }
 

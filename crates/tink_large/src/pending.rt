@@ -9,9 +9,13 @@ use tink_io::{Failed, Sink, TinkError};
 /// A sink in memory whose bytes are read again. It takes as many as it was made for.
 #[derive(Drop)]
 pub struct Pending {
+    /// The bytes that it has taken.
     pub bytes: Vec<u8>,
+    /// The number of bytes that were read again.
     pub given: usize,
+    /// The bytes that it takes at most.
     pub room: usize,
+    /// How often it has failed.
     pub faults: u64,
     ghost given_in: { given ≤ vec_len bytes },
     ghost fits: { vec_len bytes ≤ room },

@@ -10,7 +10,9 @@ use tink_io::{Draws, Sink, Source, TinkError};
 /// A refusal that hands back what was given.
 #[derive(Drop)]
 pub struct Refused<T> {
+    /// The error.
     pub error: TinkError,
+    /// The source or the sink that was given.
     pub inner: T,
 }
 

@@ -26,39 +26,53 @@ const NO_SEED: Seed = [0; 32];
 /// What `seal KEYSET AAD SEED` spells beside its seed.
 #[derive(Drop)]
 pub struct SealArgs {
+    /// The bytes of the keyset.
     pub keyset: Vec<u8>,
+    /// The associated data.
     pub aad: Vec<u8>,
 }
 
 /// What `open KEYSET AAD` spells.
 #[derive(Drop)]
 pub struct OpenArgs {
+    /// The bytes of the keyset.
     pub keyset: Vec<u8>,
+    /// The associated data.
     pub aad: Vec<u8>,
 }
 
 /// What `rotate KEYSET TEMPLATE SEED` spells beside its seed.
 #[derive(Drop)]
 pub struct RotateArgs {
+    /// The bytes of the keyset.
     pub keyset: Vec<u8>,
+    /// The name of the template.
     pub template: String,
 }
 
 /// What `range KEYSET AAD START LEN` spells.
 #[derive(Drop)]
 pub struct RangeArgs {
+    /// The bytes of the keyset.
     pub keyset: Vec<u8>,
+    /// The associated data.
     pub aad: Vec<u8>,
+    /// The first byte of the range, from 0 on.
     pub start: u64,
+    /// The bytes of the range at most.
     pub len: u64,
 }
 
 /// What `rewrap KEYSET AAD KEYSET AAD SEED` spells beside its seed.
 #[derive(Drop)]
 pub struct RewrapArgs {
+    /// The bytes of the keyset that decrypts.
     pub from: Vec<u8>,
+    /// The associated data of the stream that is read.
     pub from_aad: Vec<u8>,
+    /// The bytes of the keyset that encrypts.
     pub to: Vec<u8>,
+    /// The associated data of the new stream.
     pub to_aad: Vec<u8>,
 }
 

@@ -14,6 +14,7 @@ pub enum ProtoError {
     BadMessage,
     /// The text is not the message in JSON.
     BadJson,
+    /// There is no memory for the message.
     OutOfMemory,
 }
 

@@ -23,14 +23,18 @@ use tink_streaming_keys::{DerivesStreams, opener_behind};
 /// How the stream of an object is decrypted, and the bytes of its output prefix and header (`front`).
 #[derive(Drop)]
 pub struct BegunAt {
+    /// How the segments are opened.
     pub opener: Opener<StreamSegment>,
+    /// The bytes of the output prefix and the header.
     pub front: u64,
 }
 
 /// The same under the key at `place` of a list of keys.
 #[derive(Drop)]
 pub struct ChosenAt {
+    /// How the stream is opened.
     pub begun: BegunAt,
+    /// The place of the key in the list, from 0 on.
     pub place: usize,
 }
 

@@ -23,9 +23,13 @@ use tink_streaming_segment::SegmentDecrypter;
 /// How the chunks of a stream are opened, the bytes of its front and those behind it, and memory for a chunk.
 #[derive(Drop)]
 pub struct RangeCore<D: SegmentDecrypter> {
+    /// How the segments are opened.
     pub opener: Opener<D>,
+    /// The bytes of the output prefix and the header.
     pub front: u64,
+    /// The bytes of the segments.
     pub behind: u64,
+    /// The memory of a chunk.
     pub buffers: Buffers,
     ghost sealed: { opener.size ≤ vec_len buffers.sealed },
     ghost text: { opener.size ≤ vec_capacity buffers.text },

@@ -8,16 +8,22 @@ ghost use Rattle.tink_range.specs.Shapes.{HasShape, IsChunkPlace};
 /// The number of chunks (`count`), the bytes of their text (`text`), and the bytes before the last chunk (`last`).
 #[derive(Clone, Copy)]
 pub struct Shape {
+    /// The number of chunks.
     pub count: u64,
+    /// The bytes of their text.
     pub text: u64,
+    /// The bytes before the last chunk.
     pub last: u64,
 }
 
 /// The place of a chunk: its number, the bytes before it (`start`), and the bytes of the text before it (`text`).
 #[derive(Clone, Copy)]
 pub struct Place {
+    /// The number of the chunk, from 0 on.
     pub number: u64,
+    /// The bytes before the chunk.
     pub start: u64,
+    /// The bytes of the text before it.
     pub text: u64,
 }
 

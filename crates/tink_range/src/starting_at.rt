@@ -21,7 +21,9 @@ use tink_streaming_keys::{DerivesStreams, Trial};
 /// The chunks of an object behind the front of a key, and the key's place in a list.
 #[derive(Drop)]
 pub struct StartedAt {
+    /// How the chunks are opened.
     pub core: RangeCore<StreamSegment>,
+    /// The place of the key in the list, from 0 on.
     pub place: usize,
 }
 

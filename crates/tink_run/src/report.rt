@@ -10,6 +10,8 @@ pub struct Report {
 /// Encryption or decryption of a stream.
 #[derive(Clone, Copy, Debug, PartialEq, Eq)]
 pub enum Command {
+    /// Encryption.
     Seal,
+    /// Decryption.
     Open,
 }

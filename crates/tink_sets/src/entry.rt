@@ -14,11 +14,15 @@ use tink_proto::{Bytes, Key, KeyStatusType, OutputPrefixType};
 /// A primitive of a set, with what its key says of it.
 #[derive(Drop)]
 pub struct Entry<K: Kinds> {
+    /// The id of the key.
     pub key_id: KeyId,
+    /// The primitive of the key.
     pub primitive: Primitive<K>,
     /// The output prefix of the key.
     pub prefix: Bytes,
+    /// The output prefix type of the key.
     pub prefix_type: OutputPrefixType,
+    /// The status of the key.
     pub status: KeyStatusType,
 }
 
@@ -43,11 +47,15 @@ impl<K: Kinds> Entry<K> {
 /// A primitive of a set of one sort, with what its key says of it.
 #[derive(Drop)]
 pub struct TypedEntry<P> {
+    /// The id of the key.
     pub key_id: KeyId,
+    /// The primitive of the key.
     pub primitive: P,
     /// The output prefix of the key.
     pub prefix: Bytes,
+    /// The output prefix type of the key.
     pub prefix_type: OutputPrefixType,
+    /// The status of the key.
     pub status: KeyStatusType,
 }
 

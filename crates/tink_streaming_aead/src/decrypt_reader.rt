@@ -23,8 +23,11 @@ use tink_streaming_keys::{StreamKind, Trial, start};
 /// The keys that may decrypt the stream, its associated data, and the memory for choosing one.
 #[derive(Drop)]
 pub struct Choice {
+    /// The keys, those of one prefix in their order.
     pub keys: Vec<TypedEntry<StreamKind>>,
+    /// The associated data.
     pub data: Vec<u8>,
+    /// The memory for the choice.
     pub trial: Trial,
     ghost unread: { trial.kept.filled ≡ 0 },
     ghost room: { HasRoomForEach key_in_set keys.items (vec_len trial.kept.buffer) (vec_capacity trial.opened)
@@ -35,8 +38,11 @@ pub struct Choice {
 /// The stage of a reader: before the first read, with a chosen key, or after an error.
 #[derive(Drop)]
 pub enum Stage {
+    /// Nothing was read yet.
     Unread(Choice),
+    /// A key was chosen.
     Chosen(TextReader<StreamSegment>),
+    /// Choosing a key failed, by this cause.
     Stopped(Cause),
 }
 

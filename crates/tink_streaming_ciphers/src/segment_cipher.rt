@@ -14,7 +14,9 @@ use ctr::flavors::Ctr64BE;
 /// AES (FIPS 197) under a key of 16 or 32 bytes.
 #[derive(Drop)]
 pub enum SegmentCipher {
+    /// With a key of 16 bytes.
     Small(Aes128),
+    /// With a key of 32 bytes.
     Large(Aes256),
 }
 

@@ -15,11 +15,17 @@ use tink_streaming_segment::{Opener, SegmentDecrypter, check_sizes};
 /// a segment's size, and the offset of the first. Sizes are in bytes.
 #[derive(Drop)]
 pub struct ReaderParams<R, D: SegmentDecrypter> {
+    /// The source.
     pub r: R,
+    /// The one-shot map of a segment.
     pub segment_decrypter: D,
+    /// The bytes of a nonce, five more at least than its prefix.
     pub nonce_size: usize,
+    /// The prefix of all nonces.
     pub nonce_prefix: Vec<u8>,
+    /// The bytes of a segment.
     pub ciphertext_segment_size: u32,
+    /// The bytes that the first segment is shorter.
     pub first_ciphertext_segment_offset: u32,
 }
 

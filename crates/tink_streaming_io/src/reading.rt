@@ -15,12 +15,19 @@ use tink_streaming_segment::{Opener, SegmentDecrypter, carry, hold, open_front, 
 /// So more bytes than a chunk may be held.
 #[derive(Drop)]
 pub struct SegmentReader<D: SegmentDecrypter> {
+    /// How the segments are opened.
     pub opener: Opener<D>,
+    /// The progress of the reader.
     pub progress: Progress,
+    /// The number of segments opened so far.
     pub segments: u64,
+    /// The memory of the bytes that are held.
     pub buffer: Vec<u8>,
+    /// The number of bytes that are held: the first ones of `buffer`.
     pub filled: usize,
+    /// The text of the segment that was opened last.
     pub opened: Vec<u8>,
+    /// The memory of a nonce.
     pub nonce: Vec<u8>,
     ghost buffer_fits: { opener.size < vec_len buffer },
     ghost reserved: { opener.size ≤ vec_capacity opened },

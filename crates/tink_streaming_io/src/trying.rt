@@ -55,7 +55,9 @@ pub trait OpensStreams<D: SegmentDecrypter> {
 /// How a stream is opened that begins under a key, and the bytes of its front.
 #[derive(Drop)]
 pub struct Begun<D: SegmentDecrypter> {
+    /// How the segments are opened.
     pub opener: Opener<D>,
+    /// The bytes of the output prefix and the header.
     pub front: usize,
 }
 

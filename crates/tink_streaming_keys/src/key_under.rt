@@ -8,7 +8,9 @@ use tink_streaming_io::OpensStreams;
 /// A key, and the associated data of streams that it may have made.
 #[derive(Drop)]
 pub struct KeyUnder<'a, T> {
+    /// The key.
     pub key: &'a T,
+    /// The associated data.
     pub aad: &'a [u8],
 }
 

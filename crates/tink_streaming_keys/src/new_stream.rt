@@ -62,7 +62,9 @@ impl<'a> Front<'a> {
 /// A new stream before anything is written: its front, and the writer of its segments.
 #[derive(Drop)]
 pub struct NewStream<'a> {
+    /// The output prefix and the header.
     pub front: Front<'a>,
+    /// The writer of the segments.
     pub writer: SegmentWriter<StreamSegment>,
 }
 

@@ -23,9 +23,13 @@ use tink_streaming_segment::zeros;
 /// the largest key.
 #[derive(Drop)]
 pub struct Trial {
+    /// The bytes that were read of the source.
     pub kept: Kept,
+    /// The memory of a nonce prefix: 7 bytes.
     pub prefix: Vec<u8>,
+    /// The memory of a nonce.
     pub nonce: Vec<u8>,
+    /// The memory of the text of a segment.
     pub opened: Vec<u8>,
 }
 

@@ -16,7 +16,9 @@ pub const MAX_HEADER: usize = 40;
 /// All memory that a reader of a stream under a key takes.
 #[derive(Drop)]
 pub struct ReaderMemory {
+    /// The memory of a text, a segment and a nonce.
     pub buffers: Buffers,
+    /// The memory of a nonce prefix: 7 bytes.
     pub prefix: Vec<u8>,
 }
 
@@ -44,7 +46,9 @@ impl ReaderMemory {
 /// All memory that a writer of a stream under a key takes.
 #[derive(Drop)]
 pub struct WriterMemory {
+    /// The memory of a segment and a nonce.
     pub buffers: WriterBuffers,
+    /// The memory of a nonce prefix: 7 bytes.
     pub prefix: Vec<u8>,
 }
 

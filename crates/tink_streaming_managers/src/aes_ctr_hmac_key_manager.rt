@@ -43,10 +43,15 @@ pub type AesCtrHmacKeyManager = SymmetricKeyManager<AesCtrHmacKeys>;
 /// What params name: hashes, and sizes in bytes.
 #[derive(Clone, Copy)]
 pub struct CtrHmacSizes {
+    /// The hash of HKDF.
     pub hkdf_hash: Hash,
+    /// The bytes of a derived AES key.
     pub derived: u32,
+    /// The hash of HMAC.
     pub tag_hash: Hash,
+    /// The bytes of a tag.
     pub tag: u32,
+    /// The bytes of a segment.
     pub segment: u32,
 }
 

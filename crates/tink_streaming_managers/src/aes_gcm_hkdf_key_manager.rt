@@ -43,8 +43,11 @@ pub type AesGcmHkdfKeyManager = SymmetricKeyManager<AesGcmHkdfKeys>;
 /// What params name: a hash, and sizes in bytes.
 #[derive(Clone, Copy)]
 pub struct GcmHkdfSizes {
+    /// The hash of HKDF.
     pub hkdf_hash: Hash,
+    /// The bytes of a derived AES key.
     pub derived: u32,
+    /// The bytes of a segment.
     pub segment: u32,
 }
 

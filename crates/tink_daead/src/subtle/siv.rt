@@ -21,7 +21,9 @@ const KEPT_BITS: u8 = 0x7f;
 /// A cipher under each of two keys: the first computes V, the second encrypts (RFC 5297, section 2.6).
 #[derive(Drop)]
 pub struct SivPair<C> {
+    /// The cipher that computes V.
     pub mac: C,
+    /// The cipher of the counter mode.
     pub counter: C,
 }
 

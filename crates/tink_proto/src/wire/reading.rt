@@ -25,7 +25,9 @@ pub enum Content<'a> {
 /// A field and its number, which is from 1 to 2^29 - 1.
 #[derive(Clone, Copy)]
 pub struct Field<'a> {
+    /// The number, from 1 to 2^29 - 1.
     pub number: u32,
+    /// The content, by its type in the wire format.
     pub content: Content<'a>,
 }
 
