@@ -15,13 +15,13 @@ use std::alloc::AllocError;
 use std::fmt;
 use std::marker::Model;
 
-/// AES with keys of 16 bytes, in 10 rounds.
+/// AES (FIPS 197) with keys of 16 bytes, in 10 rounds.
 pub type Aes128 = Aes<16>;
 
-/// AES with keys of 24 bytes, in 12 rounds.
+/// AES (FIPS 197) with keys of 24 bytes, in 12 rounds.
 pub type Aes192 = Aes<24>;
 
-/// AES with keys of 32 bytes, in 14 rounds.
+/// AES (FIPS 197) with keys of 32 bytes, in 14 rounds.
 pub type Aes256 = Aes<32>;
 
 /// AES under a key of N bytes, which contracts see as the key (FIPS 197, 5). It is its own backend: eight blocks

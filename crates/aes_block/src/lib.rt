@@ -30,8 +30,8 @@ pub fn law_round_trip()
         → encrypted n key (decrypted n key block) ≡ block }
 {}
 
-/// The inverse that SubBytes takes of a byte is the one of the field (FIPS 197, 4.2): its product with each byte but 0
-/// is 1, and the inverse of 0 is 0.
+/// SubBytes takes the inverse of a byte in the field (FIPS 197, 4.2). The product of a byte but 0 and its inverse is
+/// 1, and the inverse of 0 is 0.
 pub fn law_inverse()
     ensures undoes { (a : ℕ) → 1 ≤ a → a < 256 → times a (inverse a) ≡ 1 }
     ensures of_zero { inverse 0 ≡ 0 }

@@ -74,7 +74,10 @@ pub trait BlockCipherEncrypt<const B: usize> {
         self.encrypt_with_backend(&mut ctx);
     }
 
-    /// Encrypts blocks into other places, refused exactly where there are not as many, and then nothing is written.
+    /// Encrypts blocks into other places.
+    ///
+    /// # Errors
+    /// `NotEqualError` exactly if there are not as many places as blocks. Nothing is written then.
     final fn encrypt_blocks_b2b(
         &self,
         in_blocks: &[[u8; B]],
@@ -171,7 +174,10 @@ pub trait BlockCipherDecrypt<const B: usize> {
         self.decrypt_with_backend(&mut ctx);
     }
 
-    /// Decrypts blocks into other places, refused exactly where there are not as many, and then nothing is written.
+    /// Decrypts blocks into other places.
+    ///
+    /// # Errors
+    /// `NotEqualError` exactly if there are not as many places as blocks. Nothing is written then.
     final fn decrypt_blocks_b2b(
         &self,
         in_blocks: &[[u8; B]],

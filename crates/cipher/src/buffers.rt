@@ -1,4 +1,4 @@
-//! Places that are written, with what is read in their stead.
+//! Places that are written, and those that are read in their stead.
 
 ghost use Rattle.std.specs.Prelude.{◌≡◌, ◌↔◌, ℕ, ◌+◌, ◌-◌, ◌*◌, ◌/◌, ◌<◌, ◌≤◌, IsTrue, IsOk, IfOk, OnOk, length, take, drop, slice_index_or};
 ghost use Rattle.std.specs.Simd.{first_chunks};
@@ -27,7 +27,7 @@ pub struct InOutBuf<'i, 'o, T> {
     pub input: &'i [T],
 }
 
-/// A message and a slice with room for what is made of it.
+/// A message and a slice with room for the output made of it.
 #[derive(Drop)]
 pub struct InOutBufReserved<'i, 'o, T> {
     /// The slice that is written.
@@ -68,7 +68,7 @@ impl<'i, 'o, T> InOut<'i, 'o, T> {
         }
     }
 
-    /// What is read.
+    /// The place that is read.
     pub fn get_in(&self) -> &T
         ensures value { result.now ≡ read_of self.now }
     {
@@ -138,7 +138,10 @@ impl<'i, 'o, T> From<&'o mut [T]> for InOutBuf<'i, 'o, T> {
 }
 
 impl<'i, 'o, T> InOutBuf<'i, 'o, T> {
-    /// A slice that is read and one that is written, refused exactly where their lengths differ.
+    /// A slice that is read and one that is written.
+    ///
+    /// # Errors
+    /// `NotEqualError` exactly if their lengths differ.
     pub fn new(input: &'i [T], output: &'o mut [T]) -> Result<Self, NotEqualError>
         ensures ok { IsOk result ↔ (length input.now ≡ length output.entry.now) }
         ensures value { IfOk result (λ b. (read_all b ≡ input.now)
@@ -164,7 +167,7 @@ impl<'i, 'o, T> InOutBuf<'i, 'o, T> {
         self.output.len() == 0
     }
 
-    /// What is read.
+    /// The places that are read.
     pub fn get_in(&self) -> &[T]
         ensures value { result.now ≡ read_all self.now }
     {
@@ -182,7 +185,7 @@ impl<'i, 'o, T> InOutBuf<'i, 'o, T> {
         &mut *self.output
     }
 
-    /// One place and what is read for it, the place being below the length.
+    /// One place, and the one that is read for it. The place is below the length.
     pub fn get(&mut self, pos: usize) -> InOut<'_, '_, T>
         requires { pos < length self.old.output.now }
         ensures read { read_of result ≡ slice_index_or (read_all self.old) pos result.output.now }
@@ -289,7 +292,10 @@ fn xor_slices(output: &mut [u8], input: &[u8], bytes: &[u8])
 }
 
 impl<'i, 'o, T> InOutBufReserved<'i, 'o, T> {
-    /// A message that is the first `len` places of a buffer, refused exactly where the buffer is shorter.
+    /// A message that is the first `len` places of a buffer.
+    ///
+    /// # Errors
+    /// `OutIsTooSmallError` exactly if the buffer has fewer places.
     pub fn from_mut_slice(output: &'o mut [T], len: usize) -> Result<Self, OutIsTooSmallError>
         ensures ok { IsOk result ↔ (len ≤ length output.entry.now) }
         ensures value { IfOk result (λ b. (message_of b ≡ take len output.entry.now) × (b.len ≡ len)
@@ -305,7 +311,10 @@ impl<'i, 'o, T> InOutBufReserved<'i, 'o, T> {
         })
     }
 
-    /// A message and an output, refused exactly where the output is shorter.
+    /// A message and an output.
+    ///
+    /// # Errors
+    /// `OutIsTooSmallError` exactly if the output has fewer places than the message.
     pub fn from_slices(input: &'i [T], output: &'o mut [T]) -> Result<Self, OutIsTooSmallError>
         ensures ok { IsOk result ↔ (length input.now ≤ length output.entry.now) }
         ensures value { IfOk result (λ b. (message_of b ≡ input.now) × (b.len ≡ length input.now)

@@ -32,7 +32,10 @@ pub trait KeyInit<const K: usize>: Sized {
 
     ghost key_size: { (1 ≤ K) × (K < 256) };
 
-    /// The cipher under a key, which is refused exactly where it hasn't K bytes.
+    /// The cipher under a key.
+    ///
+    /// # Errors
+    /// `InvalidLength` exactly if the key has not K bytes.
     final fn new_from_slice(key: &[u8]) -> Result<Self, InvalidLength>
         ensures ok { IsOk result ↔ (length key.now ≡ K) }
         ensures value { IfOk result (λ cipher. cipher ≡ keyed key.now) }
@@ -57,7 +60,10 @@ pub trait KeyIvInit<const K: usize, const I: usize>: Sized {
 
     ghost iv_size: { (1 ≤ I) × (I < 256) };
 
-    /// The cipher under a key and an initialization vector, refused exactly where one of them hasn't its length.
+    /// The cipher under a key and an initialization vector.
+    ///
+    /// # Errors
+    /// `InvalidLength` exactly if the key has not K bytes or the initialization vector not I.
     final fn new_from_slices(key: &[u8], iv: &[u8]) -> Result<Self, InvalidLength>
         ensures ok { IsOk result ↔ ((length key.now ≡ K) × (length iv.now ≡ I)) }
         ensures value { IfOk result (λ cipher. cipher ≡ keyed key.now iv.now) }
@@ -80,7 +86,10 @@ pub trait InnerIvInit<C: Drop, const I: usize>: Sized {
 
     ghost iv_size: { (1 ≤ I) × (I < 256) };
 
-    /// The mode over a cipher, refused exactly where the initialization vector hasn't I bytes.
+    /// The mode over a cipher.
+    ///
+    /// # Errors
+    /// `InvalidLength` exactly if the initialization vector has not I bytes.
     final fn inner_iv_slice_init(inner: C, iv: &[u8]) -> Result<Self, InvalidLength>
         ensures ok { IsOk result ↔ (length iv.now ≡ I) }
         ensures value { IfOk result (λ mode. mode ≡ with_iv inner iv.now) }
@@ -92,7 +101,7 @@ pub trait InnerIvInit<C: Drop, const I: usize>: Sized {
     }
 }
 
-/// A mode whose state can be told as an initialization vector of I bytes.
+/// A mode whose state is an initialization vector of I bytes.
 pub trait IvState<const I: usize> {
     // the initialization vector from which a new value goes on as this one does
     ghost iv_of: { Self → List ℕ };
@@ -134,6 +143,9 @@ pub trait AlgorithmName {
     ghost name: { List ℕ };
 
     /// Writes the name.
+    ///
+    /// # Errors
+    /// That of the formatter.
     fn write_alg_name<W: fmt::Write>(f: &mut fmt::Formatter<W>) -> fmt::Result
         ensures writes { DisplaysOnOk W.write_str_gives f.old result (Some name) f.new };
 }

@@ -5,7 +5,7 @@ ghost use Rattle.standards.specs.Lists.{xor_bytes};
 
 use std::simd::prelude::*;
 
-/// Writes the first bytes of `output` xor `bytes`, which are no more. What stands behind them stays.
+/// Writes the first bytes of `output` xor `bytes`, which are no more. The places behind them stay.
 #[inline(always)]
 pub fn xor_in_place(output: &mut [u8], bytes: &[u8])
     requires { length bytes.now ≤ length output.old }

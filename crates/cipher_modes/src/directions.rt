@@ -1,4 +1,4 @@
-//! A mode in one of its two directions, for what is done alike in both.
+//! A mode in one of its two directions, for calls that are alike in both.
 
 ghost use Rattle.std.specs.Prelude.{◌≡◌, ℕ, List, ◌<◌, ◌≤◌, length};
 ghost use Rattle.cipher.specs.Transcript.{Block};

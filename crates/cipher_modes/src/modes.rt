@@ -100,8 +100,11 @@ pub trait BlockModeEncrypt<const B: usize>: Sized + Drop {
         self.encrypt_with_backend(&mut ctx);
     }
 
-    /// Encrypts blocks into other places, refused exactly where there are not as many: then nothing is written
-    /// and the state stays.
+    /// Encrypts blocks into other places.
+    ///
+    /// # Errors
+    /// `NotEqualError` exactly if there are not as many places as blocks. Nothing is written then, and the state is as
+    /// before.
     final fn encrypt_blocks_b2b(
         &mut self,
         in_blocks: &[[u8; B]],
@@ -114,9 +117,12 @@ pub trait BlockModeEncrypt<const B: usize>: Sized + Drop {
         on_equal!(self, in_blocks, out_blocks, encrypt_with_backend)
     }
 
-    /// Pads a message and encrypts it in the output, and answers the length of the encrypted bytes, with which the
-    /// output then begins. It is refused exactly where the room is less than the padded length, the message is longer
-    /// than the output or it cannot be padded, and then nothing is written.
+    /// Pads a message and encrypts it in the output. The answer is the length of the encrypted bytes, with which the
+    /// output then begins.
+    ///
+    /// # Errors
+    /// `PadError` exactly if the output is shorter than the padded length, the message is longer than the output, or
+    /// the message cannot be padded. Nothing is written then.
     final fn encrypt_padded_len<P: Padding>(
         mut self,
         bytes: InOutBufReserved<'_, '_, u8>,
@@ -131,6 +137,9 @@ pub trait BlockModeEncrypt<const B: usize>: Sized + Drop {
     }
 
     /// The answer of `encrypt_padded_len`, with the encrypted bytes in place of their length.
+    ///
+    /// # Errors
+    /// As `encrypt_padded_len`.
     final fn encrypt_padded_inout<'out, P: Padding>(
         mut self,
         bytes: InOutBufReserved<'_, 'out, u8>,
@@ -145,6 +154,9 @@ pub trait BlockModeEncrypt<const B: usize>: Sized + Drop {
     }
 
     /// Like `encrypt_padded_inout` of the message that is the first `len` bytes of a buffer.
+    ///
+    /// # Errors
+    /// As `encrypt_padded_len`.
     final fn encrypt_padded<P: Padding>(
         mut self,
         buffer: &mut [u8],
@@ -159,6 +171,9 @@ pub trait BlockModeEncrypt<const B: usize>: Sized + Drop {
     }
 
     /// Like `encrypt_padded_inout` of a message and another buffer.
+    ///
+    /// # Errors
+    /// As `encrypt_padded_len`.
     final fn encrypt_padded_b2b<'out, P: Padding>(
         mut self,
         message: &[u8],
@@ -172,8 +187,11 @@ pub trait BlockModeEncrypt<const B: usize>: Sized + Drop {
         begun(output, made)
     }
 
-    /// Pads a message and encrypts it in a vector. `Pad` comes only where the message cannot be padded, and `Unpad`
-    /// never. `OutOfMemory` may come in place of each answer, also where the padded length is no usize.
+    /// Pads a message and encrypts it in a vector.
+    ///
+    /// # Errors
+    /// `Pad` only if the message cannot be padded; `Unpad` never. `OutOfMemory` may come in place of each answer, also
+    /// if the padded length is no usize.
     final fn encrypt_padded_vec<P: Padding>(
         mut self,
         alloc: Global,
@@ -255,8 +273,11 @@ pub trait BlockModeDecrypt<const B: usize>: Sized + Drop {
         self.decrypt_with_backend(&mut ctx);
     }
 
-    /// Decrypts blocks into other places, refused exactly where there are not as many: then nothing is written
-    /// and the state stays.
+    /// Decrypts blocks into other places.
+    ///
+    /// # Errors
+    /// `NotEqualError` exactly if there are not as many places as blocks. Nothing is written then, and the state is as
+    /// before.
     final fn decrypt_blocks_b2b(
         &mut self,
         in_blocks: &[[u8; B]],
@@ -269,9 +290,11 @@ pub trait BlockModeDecrypt<const B: usize>: Sized + Drop {
         on_equal!(self, in_blocks, out_blocks, decrypt_with_backend)
     }
 
-    /// Decrypts a buffer in its output, and answers the length of the message, with which the output then begins.
-    /// It is refused exactly where the length isn't whole blocks, and then nothing is written, and where the padding is
-    /// malformed, and then the output is what was deciphered.
+    /// Decrypts a buffer in its output. The answer is the length of the message, with which the output then begins.
+    ///
+    /// # Errors
+    /// `UnpadError` exactly if the length is not one of whole blocks or the padding is malformed. In the first case
+    /// nothing is written; in the second the output is what was deciphered.
     final fn decrypt_padded_len<P: Padding>(
         mut self,
         bytes: InOutBuf<'_, '_, u8>,
@@ -289,6 +312,9 @@ pub trait BlockModeDecrypt<const B: usize>: Sized + Drop {
     }
 
     /// The answer of `decrypt_padded_len`, with the message in place of its length.
+    ///
+    /// # Errors
+    /// As `decrypt_padded_len`.
     final fn decrypt_padded_inout<'out, P: Padding>(
         mut self,
         bytes: InOutBuf<'_, 'out, u8>,
@@ -303,6 +329,9 @@ pub trait BlockModeDecrypt<const B: usize>: Sized + Drop {
     }
 
     /// Like `decrypt_padded_inout` of a buffer in its place.
+    ///
+    /// # Errors
+    /// As `decrypt_padded_len`.
     final fn decrypt_padded<P: Padding>(mut self, buffer: &mut [u8]) -> Result<&[u8], UnpadError>
         ensures told { MatchResult result
             (λ message. message_in P.unpadded B (deciphered step self B buffer.old) ≡ Some message.now)
@@ -312,8 +341,11 @@ pub trait BlockModeDecrypt<const B: usize>: Sized + Drop {
         begun(buffer, made)
     }
 
-    /// Decrypts bytes in a prefix of another buffer, and answers the length of the message. It is refused as
-    /// `decrypt_padded_len` is, and exactly where the buffer is shorter than the bytes too: then nothing is written.
+    /// Decrypts bytes in a prefix of another buffer. The answer is the length of the message.
+    ///
+    /// # Errors
+    /// `UnpadError` exactly if the buffer is shorter than the bytes, or as for `decrypt_padded_len`. In the first case
+    /// nothing is written.
     final fn decrypt_padded_b2b_len<P: Padding>(
         mut self,
         input: &[u8],
@@ -335,6 +367,9 @@ pub trait BlockModeDecrypt<const B: usize>: Sized + Drop {
     }
 
     /// The answer of `decrypt_padded_b2b_len`, with the message in place of its length.
+    ///
+    /// # Errors
+    /// As `decrypt_padded_b2b_len`.
     final fn decrypt_padded_b2b<'out, P: Padding>(
         self,
         input: &[u8],
@@ -349,8 +384,11 @@ pub trait BlockModeDecrypt<const B: usize>: Sized + Drop {
         begun(output, made)
     }
 
-    /// Decrypts bytes in a vector. `Unpad` comes only where they aren't whole blocks or the padding is malformed, and
-    /// `Pad` never. `OutOfMemory` may come in place of each answer.
+    /// Decrypts bytes in a vector.
+    ///
+    /// # Errors
+    /// `Unpad` only if there are not whole blocks or the padding is malformed; `Pad` never. `OutOfMemory` may come in
+    /// place of each answer.
     final fn decrypt_padded_vec<P: Padding>(
         mut self,
         alloc: Global,

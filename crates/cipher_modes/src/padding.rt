@@ -60,15 +60,19 @@ pub trait Padding {
             (λ n. n ≡ padded_length block_size len) };
 
     /// Pads the message that is the first `len` bytes of a buffer, and answers its padded length.
-    /// It is refused exactly where the buffer is too short or the message cannot be padded, and then nothing is
-    /// written.
+    ///
+    /// # Errors
+    /// `PadError` exactly if the buffer is too short or the message cannot be padded. Nothing is written then.
     fn pad(buffer: &mut [u8], len: usize, block_size: usize) -> Result<usize, PadError>
         requires { (1 ≤ block_size) × (block_size < 256) }
         ensures ok { IsOk result ↔ Fits (padding block_size len) len (length buffer.old) }
         ensures value { IfOk result (λ n. IsPadded (padding block_size len) len n buffer.old buffer.new) }
         ensures err { OnErr result (buffer.new ≡ buffer.old) };
 
-    /// The message of padded bytes, refused exactly where they are malformed.
+    /// The message of padded bytes.
+    ///
+    /// # Errors
+    /// `UnpadError` exactly if they are malformed.
     fn unpad(bytes: &[u8], block_size: usize) -> Result<&[u8], UnpadError>
         requires { (1 ≤ block_size) × (block_size < 256) }
         ensures told { MatchResult result (λ message. unpadded block_size bytes.now ≡ Some message.now)

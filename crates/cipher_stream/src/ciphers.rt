@@ -16,26 +16,29 @@ pub trait StreamCipher {
     // whether so many bytes are left before the keystream repeats
     ghost has: { Self → ℕ → Type 0 };
 
-    /// Whether so many bytes are left. `StreamCipherError` exactly where they are not, as the type says by `has`.
+    /// Whether `data_len` bytes are left, as the type says by `has`.
+    ///
+    /// # Errors
+    /// `StreamCipherError` exactly if they are not.
     fn check_remaining(&self, data_len: usize) -> Result<(), StreamCipherError>
         ensures ok { IsOk result ↔ has self.now data_len };
 
-    /// Writes the bytes of an input of the output's length, else those of the output, xor the bytes to come, of which
-    /// so many are left. All calls that apply the keystream stand on this one.
+    /// Writes the bytes of an input of the output's length, else those of the output, xor the bytes to come. As many
+    /// are left. All calls that apply the keystream call this one.
     fn unchecked_apply_keystream_slices(&mut self, output: &mut [u8], input: &[u8])
         requires { has self.old (length output.old) }
         ensures value { output.new ≡ xored (to_come (stream self.old)) (pick input.now output.old) }
         ensures moved { HasMoved (stream self.old) (length output.old) (stream self.new) }
         ensures leaves { LeavesRoom (has self.old) (length output.old) (has self.new) };
 
-    /// Writes the bytes to come, of which so many are left.
+    /// Writes the bytes to come. As many are left.
     fn unchecked_write_keystream(&mut self, buf: &mut [u8])
         requires { has self.old (length buf.old) }
         ensures value { buf.new ≡ next_bytes (length buf.old) (stream self.old) }
         ensures moved { HasMoved (stream self.old) (length buf.old) (stream self.new) }
         ensures leaves { LeavesRoom (has self.old) (length buf.old) (has self.new) };
 
-    /// Writes the bytes that are read xor the bytes to come, of which so many are left.
+    /// Writes the bytes that are read xor the bytes to come. As many are left.
     final fn unchecked_apply_keystream_inout(&mut self, buf: InOutBuf<'_, '_, u8>)
         requires { has self.old (length buf.output.now) }
         ensures value { buf.exit.0.now ≡ xored (to_come (stream self.old)) (read_all buf.entry) }
@@ -46,7 +49,7 @@ pub trait StreamCipher {
         self.unchecked_apply_keystream_slices(output, input);
     }
 
-    /// Writes bytes xor the bytes to come in their places, of which so many are left.
+    /// Writes bytes xor the bytes to come in their places. As many are left.
     final fn unchecked_apply_keystream(&mut self, buf: &mut [u8])
         requires { has self.old (length buf.old) }
         ensures value { buf.new ≡ xored (to_come (stream self.old)) buf.old }
@@ -56,8 +59,10 @@ pub trait StreamCipher {
         self.unchecked_apply_keystream_slices(buf, &[]);
     }
 
-    /// Writes an input xor the bytes to come, of which so many are left, into an output. `NotEqualError` exactly where
-    /// their lengths differ, and then nothing changes.
+    /// Writes an input xor the bytes to come into an output. As many are left.
+    ///
+    /// # Errors
+    /// `NotEqualError` exactly if their lengths differ. Nothing changes then.
     final fn unchecked_apply_keystream_b2b(
         &mut self,
         input: &[u8],
@@ -77,8 +82,10 @@ pub trait StreamCipher {
         Ok(())
     }
 
-    /// Writes the bytes that are read xor the bytes to come. `StreamCipherError` exactly where fewer are left, and then
-    /// nothing changes.
+    /// Writes the bytes that are read xor the bytes to come.
+    ///
+    /// # Errors
+    /// `StreamCipherError` exactly if fewer bytes are left. Nothing changes then.
     final fn try_apply_keystream_inout(
         &mut self,
         buf: InOutBuf<'_, '_, u8>,
@@ -93,8 +100,10 @@ pub trait StreamCipher {
         try_apply(self, output, input)
     }
 
-    /// Writes bytes xor the bytes to come in their places. `StreamCipherError` exactly where fewer are left, and then
-    /// nothing changes.
+    /// Writes bytes xor the bytes to come in their places.
+    ///
+    /// # Errors
+    /// `StreamCipherError` exactly if fewer bytes are left. Nothing changes then.
     final fn try_apply_keystream(&mut self, buf: &mut [u8]) -> Result<(), StreamCipherError>
         ensures ok { IsOk result ↔ has self.old (length buf.old) }
         ensures value { OnOk result (buf.new ≡ xored (to_come (stream self.old)) buf.old) }
@@ -105,8 +114,10 @@ pub trait StreamCipher {
         try_apply(self, buf, &[])
     }
 
-    /// Writes an input xor the bytes to come into an output. `StreamCipherError` exactly where their lengths differ or
-    /// fewer bytes are left, and then nothing changes.
+    /// Writes an input xor the bytes to come into an output.
+    ///
+    /// # Errors
+    /// `StreamCipherError` exactly if their lengths differ or fewer bytes are left. Nothing changes then.
     final fn try_apply_keystream_b2b(
         &mut self,
         input: &[u8],
@@ -124,7 +135,10 @@ pub trait StreamCipher {
         try_apply(self, output, input)
     }
 
-    /// Writes the bytes to come. `StreamCipherError` exactly where fewer are left, and then nothing changes.
+    /// Writes the bytes to come.
+    ///
+    /// # Errors
+    /// `StreamCipherError` exactly if fewer bytes are left. Nothing changes then.
     final fn try_write_keystream(&mut self, buf: &mut [u8]) -> Result<(), StreamCipherError>
         ensures ok { IsOk result ↔ has self.old (length buf.old) }
         ensures value { OnOk result (buf.new ≡ next_bytes (length buf.old) (stream self.old)) }
@@ -137,7 +151,7 @@ pub trait StreamCipher {
         Ok(())
     }
 
-    /// Writes the bytes that are read xor the bytes to come, of which so many are left.
+    /// Writes the bytes that are read xor the bytes to come. As many are left.
     final fn apply_keystream_inout(&mut self, buf: InOutBuf<'_, '_, u8>)
         requires { has self.old (length buf.output.now) }
         ensures value { buf.exit.0.now ≡ xored (to_come (stream self.old)) (read_all buf.entry) }
@@ -148,7 +162,7 @@ pub trait StreamCipher {
         self.unchecked_apply_keystream_slices(output, input);
     }
 
-    /// Writes bytes xor the bytes to come in their places, of which so many are left.
+    /// Writes bytes xor the bytes to come in their places. As many are left.
     final fn apply_keystream(&mut self, buf: &mut [u8])
         requires { has self.old (length buf.old) }
         ensures value { buf.new ≡ xored (to_come (stream self.old)) buf.old }
@@ -158,7 +172,7 @@ pub trait StreamCipher {
         self.unchecked_apply_keystream_slices(buf, &[]);
     }
 
-    /// Writes an input xor the bytes to come, of which so many are left, into an output of its length.
+    /// Writes an input xor the bytes to come into an output of its length. As many are left.
     final fn apply_keystream_b2b(&mut self, input: &[u8], output: &mut [u8])
         requires same_length { length input.now ≡ length output.old }
         requires left { has self.old (length output.old) }
@@ -169,7 +183,7 @@ pub trait StreamCipher {
         self.unchecked_apply_keystream_slices(output, input);
     }
 
-    /// Writes the bytes to come, of which so many are left.
+    /// Writes the bytes to come. As many are left.
     final fn write_keystream(&mut self, buf: &mut [u8])
         requires { has self.old (length buf.old) }
         ensures value { buf.new ≡ next_bytes (length buf.old) (stream self.old) }

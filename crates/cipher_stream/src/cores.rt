@@ -93,9 +93,12 @@ pub trait StreamCipherCore<const B: usize>: Sized + Drop {
         self.process_with_backend(&mut ctx);
     }
 
-    /// Writes the bytes that are read xor the bytes to come. `StreamCipherError` exactly where a number of blocks
-    /// remains and the length by B exceeds it, and then nothing is written: the last block may be used in part, since
-    /// the core is gone.
+    /// Writes the bytes that are read xor the bytes to come. The last block may be used in part, since the core is
+    /// consumed.
+    ///
+    /// # Errors
+    /// `StreamCipherError` exactly if a number of blocks remains and the length divided by B exceeds it. Nothing is
+    /// written then.
     final fn try_apply_keystream_partial(
         self,
         buf: InOutBuf<'_, '_, u8>,

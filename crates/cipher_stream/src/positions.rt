@@ -29,8 +29,10 @@ pub trait SeekNum: Sized + Drop {
 
     ghost fits: { most < 2 ^ 128 };
 
-    /// The place of a byte that is `bs - byte` before the block's first: `block * bs - (bs - byte)`. `OverflowError`
-    /// exactly where `byte` is above `bs`, or the place is negative or no value of the type.
+    /// The place of a byte that is `bs - byte` before the block's first: `block * bs - (bs - byte)`.
+    ///
+    /// # Errors
+    /// `OverflowError` exactly if `byte` is above `bs`, or the place is negative or no value of the type.
     final fn from_block_byte<T: StreamCipherCounter>(
         block: T,
         byte: u8,
@@ -43,8 +45,10 @@ pub trait SeekNum: Sized + Drop {
         Self::from_u128(place).ok_or(OverflowError)
     }
 
-    /// The number of the block and the byte in it, blocks having `bs` bytes, `bs` not being 0. `OverflowError` exactly
-    /// where the number is negative or that of the block is no counter value.
+    /// The number of the block and the byte in it. Blocks have `bs` bytes, and `bs` is not 0.
+    ///
+    /// # Errors
+    /// `OverflowError` exactly if the number is negative or that of the block is no counter value.
     final fn into_block_byte<T: StreamCipherCounter>(self, bs: u8) -> Result<(T, u8), OverflowError>
         requires { 1 ≤ bs }
         ensures ok { IsOk result ↔ AtMost (option_map (λ n. n / bs) (place self)) T.most }

@@ -1,4 +1,4 @@
-//! Stream ciphers whose position can be told and chosen.
+//! Stream ciphers whose position can be read and chosen.
 
 ghost use Rattle.std.specs.Prelude.{◌≡◌, ◌↔◌, ℕ, ◌+◌, ◌<◌, Some, IsOk, IfOk, OnOk, OnErr};
 ghost use Rattle.cipher_stream.specs.ByteStream.{ByteStream, to_come, position, IsSame, AtMost};
@@ -7,7 +7,7 @@ use crate::ciphers::StreamCipher;
 use crate::errors::{OverflowError, StreamCipherError};
 use crate::positions::SeekNum;
 
-/// A stream cipher whose position, in bytes, can be told and chosen.
+/// A stream cipher whose position, in bytes, can be read and chosen.
 pub trait StreamCipherSeek: StreamCipher {
     // the greatest position: the first byte of the greatest block
     ghost end: { ℕ };
@@ -15,15 +15,20 @@ pub trait StreamCipherSeek: StreamCipher {
     // whether so many bytes are left where this is the position
     ghost room_at: { ℕ → ℕ → Type 0 };
 
-    /// The position. `OverflowError` exactly where it is below 0 (a rest of the greatest block) or no value of the
-    /// type.
+    /// The position in bytes.
+    ///
+    /// # Errors
+    /// `OverflowError` exactly if it is below 0 (a rest of the greatest block) or is no value of the type.
     fn try_current_pos<N: SeekNum>(&self) -> Result<N, OverflowError>
         ensures ok { IsOk result ↔ AtMost (position (Self.stream self.now)) N.most }
         ensures value { IfOk result (λ n. N.place n ≡ position (Self.stream self.now)) }
         ensures within { (Self.stream self.now).taken < (Self.stream self.now).period };
 
-    /// Chooses the position. `StreamCipherError` exactly where it is negative, its block exceeds the counter, or it is
-    /// in the greatest block past the first byte; then nothing changes.
+    /// Chooses the position in bytes.
+    ///
+    /// # Errors
+    /// `StreamCipherError` exactly if it is negative, its block exceeds the counter, or it is in the greatest block
+    /// past the first byte. Nothing changes then.
     fn try_seek<N: SeekNum>(&mut self, pos: N) -> Result<(), StreamCipherError>
         ensures ok { IsOk result ↔ AtMost (N.place pos) end }
         ensures placed { OnOk result (position (Self.stream self.new) ≡ N.place pos) }

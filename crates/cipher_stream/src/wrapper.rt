@@ -163,7 +163,10 @@ impl<T: StreamCipherCore<B>, const B: usize> BufferedCore<T, [u8; B]> {
 }
 
 impl<T: StreamCipherCore<B> + Clone, const B: usize> BufferedCore<T, [u8; B]> {
-    /// An equal value, where the core's clone is equal to it.
+    /// An equal value, if the core's clone is equal to it.
+    ///
+    /// # Errors
+    /// `AllocError` of the core's clone. If that always succeeds, so does this call.
     pub fn clone(&self) -> Result<Self, AllocError>
         requires { (c : T) → T.is_clone self.now.0 c → c ≡ self.now.0 }
         ensures value { IfOk result (λ other. other ≡ self.now) }

@@ -15,7 +15,7 @@ use cipher::{
 use cipher_stream::{StreamCipherClosure, StreamCipherCore, StreamCipherSeekCore};
 use std::fmt;
 
-/// Counter mode of a flavour over a cipher on blocks of B bytes: block i of the keystream is the cipher's block of the
+/// Counter mode of a flavour over a cipher on blocks of B bytes. Block i of the keystream is the cipher's block of the
 /// nonce with i added in its field.
 pub type CtrCore<C, F, const B: usize> = CounterCore<C, F, [u8; B]>;
 

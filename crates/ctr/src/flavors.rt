@@ -1,4 +1,4 @@
-//! The flavours of counter mode: where the counter stands in a block, and how it is added.
+//! The flavours of counter mode: the place of the counter in a block, and how it is added.
 //!
 //! A block of B bytes is a whole number of chunks, at least one. The flavours `BE` add the counter in the last chunk,
 //! high byte first, and the flavours `LE` in the first, low byte first. All other bytes stay as they are.
@@ -22,7 +22,7 @@ pub use ctr128::{Ctr128, Ctr128BE, Ctr128LE, CtrNonce128};
 pub use ends::{FieldEnd, First, Last};
 use std::marker::Model;
 
-/// A flavour's name, of which a contract sees the bytes.
+/// A flavour's name. A contract sees its bytes.
 #[derive(Drop)]
 pub struct FlavorName(pub &'static str);
 

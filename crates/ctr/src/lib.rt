@@ -36,9 +36,9 @@ pub type Ctr128BE<C> = StreamCipherCoreWrapper<CtrCore<C, flavors::Ctr128BE, 16>
 /// Counter mode over a cipher on blocks of 16 bytes, which are the counter, low byte first.
 pub type Ctr128LE<C> = StreamCipherCoreWrapper<CtrCore<C, flavors::Ctr128LE, 16>, 16>;
 
-/// What a core's keystream makes of a text, on blocks of 16 bytes, is counter mode as the standards have it: with the
-/// counter in the last bytes (SP 800-38A, 6.5 and B.1), in the first (RFC 8452, 4), and as GCM (SP 800-38D, 7.1) and
-/// GCM-SIV (RFC 8452, 4) use it. A cipher over a core with no rest applies the core's bytes.
+/// A text xor a core's keystream, on blocks of 16 bytes, is counter mode as the standards have it. The counter is in
+/// the last bytes (SP 800-38A, 6.5 and B.1) or in the first (RFC 8452, 4). GCM (SP 800-38D, 7.1) and GCM-SIV (RFC
+/// 8452, 4) use it so. A cipher over a core with no rest applies the core's bytes.
 pub fn law_counter_mode()
     ensures last_bytes { (w : Width) (E : List ℕ → List ℕ) (nonce text : List ℕ)
         → ((i : ℕ) → length (E (plus_be w nonce i)) ≡ 16)

@@ -127,16 +127,16 @@ pub(crate) fn polyval_key(key: &[u8; 16]) -> HashKey
     HashKey::new(times_x(u128::from_le_bytes(*key)))
 }
 
-/// GHASH under the key, of data and text, each with zeros up to whole blocks of 16 bytes, and of their lengths in bits
-/// modulo 2^64 (SP 800-38D, 7.1, step 5).
+/// GHASH under the key, of data and text, and of their lengths in bits modulo 2^64 (SP 800-38D, 7.1, step 5). Zeros
+/// fill data and text up to whole blocks of 16 bytes.
 pub fn ghash(key: &[u8; 16], aad: &[u8], text: &[u8]) -> [u8; 16]
     ensures value { result ≡ ghash key.now aad.now text.now }
 {
     hashed_once(ByteOrder::BigEndian, &ghash_key(key), aad, text)
 }
 
-/// POLYVAL under the key, of data and text, each with zeros up to whole blocks of 16 bytes, and of their lengths in
-/// bits modulo 2^64 (RFC 8452, 3 and 4).
+/// POLYVAL under the key, of data and text, and of their lengths in bits modulo 2^64 (RFC 8452, 3 and 4). Zeros
+/// fill data and text up to whole blocks of 16 bytes.
 pub fn polyval(key: &[u8; 16], aad: &[u8], text: &[u8]) -> [u8; 16]
     ensures value { result ≡ polyval key.now aad.now text.now }
 {

@@ -133,8 +133,8 @@ impl<C: BlockCipherEncrypt<16>> Gcm<C> {
         }
     }
 
-    /// Writes the ciphertext of `text` and its tag of 16 bytes into `out`, under a nonce of 12 bytes and with the
-    /// associated data `aad` (7.1). A nonce serves once under each key.
+    /// Writes the ciphertext of `text` and its tag of 16 bytes into `out` (7.1). The nonce has 12 bytes, and
+    /// `aad` is the associated data. A nonce serves once under each key.
     ///
     /// # Errors
     /// `DataTooLong` where `aad` has more than 2^36 bytes, and else `TextTooLong` where `text` has more than
@@ -166,12 +166,12 @@ impl<C: BlockCipherEncrypt<16>> Gcm<C> {
         Ok(())
     }
 
-    /// Writes the one text of which `sealed` is the encryption into `out`, which has 16 bytes less, or none where
-    /// `sealed` is shorter than 16 bytes (7.2).
+    /// Writes the one text whose encryption is `sealed` into `out` (7.2). `out` has 16 bytes less, or none if
+    /// `sealed` is shorter than 16 bytes.
     ///
     /// # Errors
-    /// `DataTooLong` where `aad` has more than 2^36 bytes, else `TextTooLong` where `sealed` has more than 2^36 - 16,
-    /// and else `DecryptFailed` where it is the encryption of no text. `out` is then as before.
+    /// `DataTooLong` if `aad` has more than 2^36 bytes. Else `TextTooLong` if `sealed` has more than 2^36 - 16. Else
+    /// `DecryptFailed` if it is the encryption of no text. `out` is then as before.
     pub fn open_into(&self, nonce: &[u8], aad: &[u8], sealed: &[u8], out: &mut [u8]) -> GcmResult
         requires nonce { length nonce.now ≡ 12 }
         requires room { length out.old ≡ length sealed.now - 16 }

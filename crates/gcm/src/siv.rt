@@ -22,8 +22,8 @@ use std::marker::PhantomData;
 // The most bytes of a text (6).
 const MOST_TEXT: usize = 1 << 36;
 
-/// GCM-SIV (RFC 8452) under a key of K bytes, 16 or 32, over the ciphers with blocks of 16 bytes that C makes from
-/// such keys.
+/// GCM-SIV (RFC 8452) under a key of K bytes, 16 or 32. C makes ciphers with blocks of 16 bytes from keys of this
+/// size.
 #[derive(Drop)]
 pub struct GcmSiv<C, const K: usize> {
     key: [u8; K],
@@ -175,8 +175,8 @@ impl<C: KeyInit<K> + BlockCipherEncrypt<16> + Drop, const K: usize> GcmSiv<C, K>
         }
     }
 
-    /// Writes the ciphertext of `text` and its tag of 16 bytes into `out`, under a nonce of 12 bytes and with the
-    /// associated data `aad` (4).
+    /// Writes the ciphertext of `text` and its tag of 16 bytes into `out` (4). The nonce has 12 bytes, and `aad`
+    /// is the associated data.
     ///
     /// # Errors
     /// `DataTooLong` where `aad` has more than 2^36 bytes, and else `TextTooLong` where `text` has. `out` is then as
@@ -192,12 +192,12 @@ impl<C: KeyInit<K> + BlockCipherEncrypt<16> + Drop, const K: usize> GcmSiv<C, K>
         Ok(())
     }
 
-    /// Writes the one text of which `sealed` is the encryption into `out`, which has 16 bytes less, or none where
-    /// `sealed` is shorter than 16 bytes (5). The body makes the text twice: for the tag, and to write it.
+    /// Writes the one text whose encryption is `sealed` into `out` (5). `out` has 16 bytes less, or none if
+    /// `sealed` is shorter than 16 bytes. The body makes the text twice: for the tag, and to write it.
     ///
     /// # Errors
-    /// `DataTooLong` where `aad` has more than 2^36 bytes, else `TextTooLong` where `sealed` has more than 2^36 + 16,
-    /// and else `DecryptFailed` where it is the encryption of no text. `out` is then as before.
+    /// `DataTooLong` if `aad` has more than 2^36 bytes. Else `TextTooLong` if `sealed` has more than 2^36 + 16. Else
+    /// `DecryptFailed` if it is the encryption of no text. `out` is then as before.
     pub fn open_into(&self, nonce: &[u8], aad: &[u8], sealed: &[u8], out: &mut [u8]) -> GcmResult
         requires nonce { length nonce.now ≡ 12 }
         requires room { length out.old ≡ length sealed.now - 16 }

@@ -13,8 +13,8 @@ const INNER_PAD: u8 = 0x36;
 
 const OUTER_PAD: u8 = 0x5c;
 
-/// A key of HMAC under a hash, kept as the states of the hash after its two padded blocks (6), so that a tag costs no
-/// compressions beyond those of its text and of one digest.
+/// A key of HMAC (FIPS 198-1) under a hash. It is kept as the states of the hash after its two padded blocks
+/// (section 6). So a tag costs no compressions beyond those of its text and of one digest.
 ///
 /// A contract says by `IsHmacKey` which key it is of.
 #[derive(Drop)]
@@ -112,8 +112,8 @@ impl HmacKey {
         copy.finish(a, b, c)
     }
 
-    /// Fills `out`, of at most a digest's bytes, with a prefix of HMAC under the key of the text that `a`, `b` and `c`
-    /// make joined.
+    /// Fills `out`, of at most a digest's bytes, with a prefix of HMAC under the key. The text is `a`, `b` and `c`
+    /// joined.
     pub fn tag_into(&self, a: &[u8], b: &[u8], c: &[u8], out: &mut [u8])
         requires { length out.old ≤ digest_size self.now.hash }
         ensures written { (h : Hash) (key : List ℕ) → IsHmacKey self.now h key
@@ -138,8 +138,8 @@ impl Clone for HmacKey {
     }
 }
 
-/// Fills `out`, of at most a digest's bytes, with a prefix of HMAC (4) under `key` of the text that `a`, `b` and `c`
-/// make joined.
+/// Fills `out`, of at most a digest's bytes, with a prefix of HMAC (4) under `key`. The text is `a`, `b` and `c`
+/// joined.
 ///
 /// Each part goes to the hash as it is, so that no part is copied.
 pub fn hmac_into(h: Hash, key: &[u8], a: &[u8], b: &[u8], c: &[u8], out: &mut [u8])

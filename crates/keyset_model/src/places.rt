@@ -10,7 +10,7 @@ ghost use Rattle.keyset_model.specs.Places.{IsPlace};
 
 use tink_proto::{Key, KeyStatusType};
 
-/// Where the first key of an id stands, and its status.
+/// The place of the first key of an id, and its status.
 #[tactic(auto, using(crate::proofs::FirstPlaces::at_place))]
 pub fn place_of(keys: &[Key], id: u32) -> Option<(usize, i32)>
     ensures status { option_map (λ r. r.1) result ≡ edits.status_of id keys.now }

@@ -2,43 +2,42 @@
 
 ghost use Rattle.loading_model.specs.Rotation.{EditedLoads, HasItsPlace, LoadsAlone, OpeningStays, StaysChosen, StaysChosenByAll, StreamsOutlive, StreamsOutliveById, StreamsStay};
 
-/// The bytes of the keyset that any commands make load as this keyset, where it fits the wire format, as every keyset
-/// does that was encoded.
+/// If the keyset that any commands make fits the wire format, its bytes load as this keyset. Every keyset that was
+/// encoded fits it.
 #[tactic(auto, using(crate::proofs::RotationFacts::edited_loads))]
 pub fn law_edited_loads()
     ensures { EditedLoads }
 {}
 
-/// Of a keyset that loads, the key that is chosen for a stream is the first in order that is enabled and under which the
-/// stream begins.
+/// If a keyset loads, the key that is chosen for a stream is the first enabled one under which the stream begins.
 #[tactic(auto, using(crate::proofs::ChoosingFacts::has_its_place))]
 pub fn law_chosen_place()
     ensures { HasItsPlace }
 {}
 
-/// Of a keyset that loads, the key that is chosen for a stream is by itself a keyset that loads, and is then the one
-/// key that may be chosen.
+/// If a keyset loads, the key that is chosen for a stream is by itself a keyset that loads. It is then the one key
+/// that may be chosen.
 pub fn law_chosen_alone()
     ensures { LoadsAlone }
 {}
 
-/// After any commands of which each adds a key, rotates or chooses the primary key, each stream opens to the text that
-/// it opened to, where the keyset loads before and after.
+/// If commands only add keys, rotate or choose the primary key, each stream opens to the text that it opened to.
+/// The premise: the keyset loads before and after.
 #[tactic(auto, using(crate::proofs::RotationFacts::streams_stay))]
 pub fn law_streams_stay()
     ensures { StreamsStay }
 {}
 
-/// A command that acts on another key than the one that is chosen for a stream, and enables none before it, leaves that
-/// key chosen, one place lower where a key before it was deleted. The stream opens to the texts that it opened to and to
-/// no others, where the keyset loads before and after.
+/// If a command acts on another key than the one that is chosen for a stream, and enables none before it, that key
+/// stays chosen. It is one place lower if a key before it was deleted. The stream opens to the texts that it opened to
+/// and to no others, where the keyset loads before and after.
 #[tactic(auto, using(crate::proofs::RotationFacts::stays_chosen, crate::proofs::RotationFacts::opening_stays))]
 pub fn law_other_records()
     ensures place { StaysChosen }
     ensures opening { OpeningStays }
 {}
 
-/// The same of any list of commands, each of which leaves the chosen key where it then stands. In between the keyset
+/// The same of any list of commands that each leave the chosen key at its place at that time. In between the keyset
 /// need not load.
 #[tactic(auto, using(crate::proofs::RotationFacts::stays_chosen_by_all, crate::proofs::RotationFacts::streams_outlive, crate::proofs::RotationFacts::streams_outlive_by_id))]
 pub fn law_streams_outlive_commands()

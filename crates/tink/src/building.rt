@@ -20,7 +20,15 @@ use tink_proto::Bytes;
 use tink_registry::KeyManager;
 use tink_streaming_aead::StreamKinds;
 
-// The AEAD of a key's bytes.
+/// The AEAD of a key's bytes in the wire format.
+///
+/// # Errors
+/// The first that applies:
+/// - `InvalidKey` if there are no bytes or they are not the message of the type;
+/// - those of the type for the key;
+/// - `WrongPrimitive` if the primitive is no AEAD.
+///
+/// `OutOfMemory`.
 pub fn build_aead<T: KeyType<Family = AeadKinds>>(
     alloc: Global,
     key: &[u8],
@@ -36,7 +44,10 @@ pub fn build_aead<T: KeyType<Family = AeadKinds>>(
     }
 }
 
-// The MAC of a key's bytes.
+/// The MAC of a key's bytes in the wire format.
+///
+/// # Errors
+/// As `build_aead`, with `WrongPrimitive` if the primitive is no MAC.
 pub fn build_mac<T: KeyType<Family = MacKinds>>(
     alloc: Global,
     key: &[u8],
@@ -52,7 +63,10 @@ pub fn build_mac<T: KeyType<Family = MacKinds>>(
     }
 }
 
-// The pseudorandom function of a key's bytes.
+/// The pseudorandom function of a key's bytes in the wire format.
+///
+/// # Errors
+/// As `build_aead`, with `WrongPrimitive` if the primitive is no PRF.
 pub fn build_prf<T: KeyType<Family = PrfKinds>>(
     alloc: Global,
     key: &[u8],
@@ -68,7 +82,10 @@ pub fn build_prf<T: KeyType<Family = PrfKinds>>(
     }
 }
 
-// The streaming AEAD of a key's bytes.
+/// The streaming AEAD of a key's bytes in the wire format.
+///
+/// # Errors
+/// As `build_aead`, with `WrongPrimitive` if the primitive is no streaming AEAD.
 pub fn build_streaming_aead<T: KeyType<Family = StreamKinds>>(
     alloc: Global,
     key: &[u8],
@@ -84,7 +101,10 @@ pub fn build_streaming_aead<T: KeyType<Family = StreamKinds>>(
     }
 }
 
-// The deterministic AEAD of a key's bytes.
+/// The deterministic AEAD of a key's bytes in the wire format.
+///
+/// # Errors
+/// As `build_aead`, with `WrongPrimitive` if the primitive is no deterministic AEAD.
 pub fn build_deterministic_aead<T: KeyType<Family = DaeadKinds>>(
     alloc: Global,
     key: &[u8],
@@ -100,7 +120,11 @@ pub fn build_deterministic_aead<T: KeyType<Family = DaeadKinds>>(
     }
 }
 
-// The bytes of a new key of a format's bytes.
+/// The bytes of a new key in the wire format, of a format in the wire format.
+///
+/// # Errors
+/// `InvalidFormat` if there are no bytes or they are not the format of the type. Then those of the type for the
+/// format and the random bytes left. `OutOfMemory`.
 pub fn make<T: KeyType>(alloc: Global, format: &[u8], draws: &mut Draws) -> Result<Bytes, TinkError>
     ensures { Replies result (makes T.Key.table T.Format.table T.made format.now draws.old) draws.old draws.new }
 {

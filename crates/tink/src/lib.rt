@@ -1,5 +1,5 @@
-//! Tink: keysets, and over them pseudorandom functions, MACs, AEADs, streaming and deterministic AEADs, with the
-//! managers of all their keys as one type, and their registry.
+//! Tink: keysets, and over them pseudorandom functions, MACs, AEADs, streaming and deterministic AEADs. The
+//! managers of all their keys are one type, and have a registry.
 #![tactic(auto)]
 
 pub mod aead;

@@ -34,10 +34,10 @@ pub const AES_CTR_HMAC_AEAD_KEY_VERSION: u32 = 0;
 pub const AES_CTR_HMAC_AEAD_TYPE_URL: &str =
     "type.googleapis.com/google.crypto.tink.AesCtrHmacAeadKey";
 
-/// The type of keys of AES in counter mode with HMAC. A key builds exactly where its version and
-/// those of its parts are 0, the AES key has 16 or 32 bytes and params with vectors of 12 to 16,
-/// and the HMAC key builds an `Hmac`. A format makes a key exactly where the same holds of its
-/// sizes and params; the AES key is drawn first.
+/// The type of keys of AES in counter mode (SP 800-38A, section 6.5) with HMAC (FIPS 198-1). A key builds
+/// exactly if three facts hold. Its version and those of its parts are 0. The AES key has 16 or 32 bytes and
+/// params with vectors of 12 to 16 bytes. The HMAC key builds an `Hmac`. A format makes a key exactly where
+/// the same holds of its sizes and params; the AES key is drawn first.
 pub struct AesCtrHmacAeadKeys;
 
 /// The manager of keys of AES in counter mode with HMAC.

@@ -23,8 +23,8 @@ pub const AES_GCM_KEY_VERSION: u32 = 0;
 /// The URL of AES-GCM keys.
 pub const AES_GCM_TYPE_URL: &str = "type.googleapis.com/google.crypto.tink.AesGcmKey";
 
-/// The type of AES-GCM keys. A key builds exactly where its version is 0 and it has 16 or 32 bytes.
-/// A format makes a key exactly where its key size is one of these.
+/// The type of AES-GCM keys (SP 800-38D). A key builds exactly where its version is 0 and it has 16 or 32
+/// bytes. A format makes a key exactly where its key size is one of these.
 pub struct AesGcmKeys;
 
 /// The manager of AES-GCM keys.

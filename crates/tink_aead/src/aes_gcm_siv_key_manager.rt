@@ -23,8 +23,8 @@ pub const AES_GCM_SIV_KEY_VERSION: u32 = 0;
 /// The URL of AES-GCM-SIV keys.
 pub const AES_GCM_SIV_TYPE_URL: &str = "type.googleapis.com/google.crypto.tink.AesGcmSivKey";
 
-/// The type of AES-GCM-SIV keys. A key builds exactly where its version is 0 and it has 16 or 32 bytes.
-/// A format makes a key exactly where its key size is one of these.
+/// The type of AES-GCM-SIV keys (RFC 8452). A key builds exactly where its version is 0 and it has 16 or 32
+/// bytes. A format makes a key exactly where its key size is one of these.
 pub struct AesGcmSivKeys;
 
 /// The manager of AES-GCM-SIV keys.

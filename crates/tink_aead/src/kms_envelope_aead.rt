@@ -27,8 +27,8 @@ const LEN_DEK: usize = 4;
 // More bytes than a length of four bytes counts.
 const TOO_LONG: usize = 1 << 32;
 
-/// An AEAD by a remote one. What it makes of a text is the length of an encrypted data key in four
-/// bytes, high byte first, that key, and what the key encrypts the text to. Each text has a new
+/// An AEAD by a remote one. Its ciphertext has three parts. They are the length of an encrypted data key in
+/// four bytes, high byte first, this encrypted key, and the text encrypted by the key. Each text has a new
 /// data key, by a template of the registry's.
 #[derive(Drop)]
 pub struct KmsEnvelopeAead<'r, A, M> {
@@ -64,7 +64,10 @@ impl<A: CloneIn, M> CloneIn for KmsEnvelopeAead<'_, A, M> {
     }
 }
 
-// The template again.
+/// An equal template.
+///
+/// # Errors
+/// `OutOfMemory` alone.
 pub fn same_template(alloc: Global, kt: &KeyTemplate) -> Result<KeyTemplate, TinkError>
     ensures value { IfOk result (λ copy. copy ≡ kt.now) }
     ensures cause { IfErr result (λ e. e.kind ≡ OutOfMemory) }
@@ -190,9 +193,14 @@ impl<A: Aead, M: KeyManager> Aead for KmsEnvelopeAead<'_, A, M> {
         M.Family.Aead.decrypts input aad };
 
     /// # Errors
-    /// The registry's refusals on the new key, else those of the remote key on encrypting it, else
-    /// the registry's on building it, else `WrongPrimitive` where it is no AEAD's key, else those of
-    /// its AEAD on the text, else `LengthOverU32` where the encrypted key has 2^32 bytes or more.
+    /// The first that applies:
+    /// - those of the registry on the new key;
+    /// - those of the remote key on encrypting it;
+    /// - those of the registry on building it;
+    /// - `WrongPrimitive` if it is no AEAD's key;
+    /// - those of its AEAD on the text;
+    /// - `LengthOverU32` if the encrypted key has 2^32 bytes or more.
+    ///
     /// `OutOfMemory` may come in place of each.
     fn encrypt(
         &self,
@@ -220,10 +228,15 @@ impl<A: Aead, M: KeyManager> Aead for KmsEnvelopeAead<'_, A, M> {
     }
 
     /// # Errors
-    /// `TooShort` where the ciphertext has four bytes or fewer, else `DecryptFailed` where the
-    /// length is 0 or more bytes than follow it, else the refusals of the remote key on the
-    /// encrypted key, else the registry's on building it, else `WrongPrimitive` where it is no AEAD's
-    /// key, else those of its AEAD on the rest. `OutOfMemory` may come in place of each.
+    /// The first that applies:
+    /// - `TooShort` if the ciphertext has four bytes or fewer;
+    /// - `DecryptFailed` if the length is 0 or more bytes than follow it;
+    /// - those of the remote key on the encrypted key;
+    /// - those of the registry on building it;
+    /// - `WrongPrimitive` if it is no AEAD's key;
+    /// - those of its AEAD on the rest.
+    ///
+    /// `OutOfMemory` may come in place of each.
     fn decrypt(
         &self,
         alloc: Global,
@@ -261,8 +274,8 @@ impl<A: Aead, M: KeyManager> Aead for KmsEnvelopeAead<'_, A, M> {
         (A.decrypts_told e.remote) M.Family.Aead.decrypts_told };
 }
 
-/// What an envelope encrypts is decrypted again, where the remote key's decryption undoes its
-/// encryption, which never has no bytes, and the decryption of each data key's AEAD undoes its own.
+/// An envelope decrypts what it encrypts, under two premises. The remote key's decryption undoes its
+/// encryption, which never has no bytes. The decryption of each data key's AEAD undoes its encryption.
 pub fn law_envelopes_open<P: Aead>()
     ensures { EnvelopeUndoes P.encrypts P.decrypts }
 {}

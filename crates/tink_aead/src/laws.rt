@@ -9,20 +9,23 @@ use crate::{AesCtrHmacAeadKeyManager, AesGcmKeyManager, AesGcmSivKeyManager};
 use tink_primitives::{Aead, Kinds};
 use tink_registry::KeyManager;
 
-/// What keys of AES in counter mode with HMAC build accepts exactly the encryptions of some text, each as that of its
-/// text, and decrypts again what it encrypts.
+/// A key of AES in counter mode with HMAC builds an AEAD. It accepts exactly the encryptions of some text, each as
+/// that of its text. It decrypts what it encrypts.
 pub fn law_aes_ctr_hmac()
     ensures built { KeysBuildWhole }
     ensures accepts { WholeAccepts }
     ensures undoes { WholeUndoes }
 {}
 
-/// What an entry made, with a prefix of five bytes or none, is decrypted by every list of entries that still has it,
-/// where its AEAD's decryption undoes its encryption, the ciphertext has more than five bytes, and no entry opens it to
-/// another text. So, where the edited keyset gives AEADs, what an enabled key made is decrypted by the entries of its
-/// keyset after every list of commands that neither disables, destroys nor deletes a key of its id, and what a keyset's
-/// AEADs encrypted, each of which undoes its own encryption, by those of the keyset after every list of commands that
-/// spares its primary id so.
+/// Every list of entries that still has an entry decrypts what that entry made, with a prefix of five bytes or none.
+/// The premises: its AEAD's decryption undoes its encryption, the ciphertext has more than five bytes, and no entry
+/// opens it to another text.
+///
+/// `keys` says this of an enabled key of a keyset. The keyset is edited by commands that neither disable, destroy nor
+/// delete a key of its id, and then gives AEADs.
+///
+/// `primary` says it of what a keyset's AEADs encrypted, if each undoes its own encryption. The commands spare the
+/// primary id in the same way.
 pub fn law_old_ciphertexts_open<M: KeyManager, P: Aead>()
 where
     M::Family: Kinds<Aead = P>,
@@ -40,9 +43,9 @@ pub fn law_built_aeads_are_sound()
         ⟦<AesCtrHmacAeadKeyManager as KeyManager>⟧.builds }
 {}
 
-/// What a keyset's AEADs encrypted is decrypted by those of the keyset that any list of a manager's commands makes of it,
-/// where none of them disables, destroys or deletes a key of the id that was primary: by the same key managers, whose
-/// AEADs decrypt what they encrypt, and where no entry opens it to another text.
+/// A keyset's AEADs encrypt, and then a manager's commands edit the keyset. If no command disables, destroys or
+/// deletes a key of the id that was primary, the edited keyset decrypts the ciphertext. The premises: the same key
+/// managers build both, their AEADs decrypt what they encrypt, and no entry opens the ciphertext to another text.
 pub fn law_ciphertexts_outlive_commands<M: KeyManager, P: Aead>()
 where
     M::Family: Kinds<Aead = P>,

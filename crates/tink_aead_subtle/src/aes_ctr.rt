@@ -25,9 +25,9 @@ pub const AES_CTR_MIN_IV_SIZE: usize = 12;
 /// The size of a block in bytes, and the most of an initialization vector.
 pub const AES_BLOCK_SIZE_IN_BYTES: usize = 16;
 
-/// AES in counter mode under a key of 16 or 32 bytes. What it makes of a text is an initialization
-/// vector of `iv_size` draws and the ciphertext. The counter blocks are the vector and zeros, and
-/// count in their last eight bytes.
+/// AES in counter mode (SP 800-38A, section 6.5) under a key of 16 or 32 bytes. Its output for a text is an
+/// initialization vector of `iv_size` draws and the ciphertext. The counter blocks are the vector and zeros,
+/// and count in their last eight bytes.
 ///
 /// Nothing protects the ciphertext from changes.
 #[derive(Drop)]

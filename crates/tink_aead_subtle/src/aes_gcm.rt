@@ -60,9 +60,9 @@ impl Aead for AesGcm {
     ghost decrypts = { λ a input aad. gcm_decrypts a.key input aad };
 
     /// # Errors
-    /// `DataTooLong` where the associated data has more than 2^36 bytes, else `TextTooLong` where
-    /// the text has more than 2^36 - 32, else `RandomFault` where fewer than 12 draws are left.
-    /// `OutOfMemory` may come in place of each. No refusal takes a draw.
+    /// `DataTooLong` if the associated data has more than 2^36 bytes. Else `TextTooLong` if the text has more
+    /// than 2^36 - 32. Else `RandomFault` if fewer than 12 draws are left. `OutOfMemory` may come in place of
+    /// each. No refusal takes a draw.
     fn encrypt(
         &self,
         alloc: Global,
@@ -78,9 +78,9 @@ impl Aead for AesGcm {
     }
 
     /// # Errors
-    /// `TooShort` where the ciphertext has fewer than 28 bytes, else `DataTooLong` and `TextTooLong`
-    /// as where it encrypts, else `DecryptFailed` where it is the encryption of no text with this
-    /// associated data. `OutOfMemory` may come in place of each.
+    /// `TooShort` if the ciphertext has fewer than 28 bytes. Else `DataTooLong` and `TextTooLong` as for
+    /// encryption. Else `DecryptFailed` if it is the encryption of no text with this associated data.
+    /// `OutOfMemory` may come in place of each.
     fn decrypt(
         &self,
         alloc: Global,

@@ -89,9 +89,9 @@ impl Aead for AesGcmSiv {
     }
 
     /// # Errors
-    /// `TooShort` where the ciphertext has fewer than 28 bytes, else `DataTooLong` and `TextTooLong`
-    /// as where it encrypts, else `DecryptFailed` where it is the encryption of no text with this
-    /// associated data. `OutOfMemory` may come in place of each.
+    /// `TooShort` if the ciphertext has fewer than 28 bytes. Else `DataTooLong` and `TextTooLong` as for
+    /// encryption. Else `DecryptFailed` if it is the encryption of no text with this associated data.
+    /// `OutOfMemory` may come in place of each.
     fn decrypt(
         &self,
         alloc: Global,

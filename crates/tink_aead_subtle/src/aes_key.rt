@@ -11,7 +11,10 @@ use tink_io::{Kind, TinkError};
 use tink_primitives::CloneIn;
 use tink_proto::Bytes;
 
-/// Refuses a size in bytes by `BadKeySize`, unless it is 16 or 32.
+/// Whether an AES key of an AEAD may have this size: 16 or 32 bytes.
+///
+/// # Errors
+/// `BadKeySize` exactly if the size is neither 16 nor 32.
 pub fn validate_aes_key_size(size_in_bytes: usize) -> Result<(), TinkError>
     ensures { Tells result (if is_aes_key_size size_in_bytes then Ok tt else Err BadKeySize) }
 {
@@ -21,7 +24,7 @@ pub fn validate_aes_key_size(size_in_bytes: usize) -> Result<(), TinkError>
     }
 }
 
-// A key of 16 or 32 bytes, which contracts see as its bytes.
+/// A key of AES (FIPS 197) of 16 or 32 bytes. A contract sees its bytes.
 #[derive(Drop)]
 pub struct AesKey {
     bytes: Bytes,
@@ -39,7 +42,10 @@ impl Model for AesKey {
 }
 
 impl AesKey {
-    // The key, or `BadKeySize`.
+    /// The key of these bytes.
+    ///
+    /// # Errors
+    /// `BadKeySize` if there are neither 16 nor 32 bytes. `OutOfMemory`.
     pub fn new(alloc: Global, key: &[u8]) -> Result<AesKey, TinkError>
         ensures { Answers result (sized key.now key.now) }
     {
@@ -49,14 +55,14 @@ impl AesKey {
         })
     }
 
-    // The size of the key in bytes.
+    /// The size of the key in bytes: 16 or 32.
     pub fn len(&self) -> usize
         ensures { result ≡ length self.now }
     {
         self.bytes.as_slice().len()
     }
 
-    // The key where it has 16 bytes.
+    /// The key, if it has 16 bytes.
     pub fn small(&self) -> Option<&[u8; 16]>
         ensures { MatchOption result (length self.now ≡ 32) (λ key. (key.now ≡ self.now) × (length self.now ≡ 16)) }
     {
@@ -66,7 +72,7 @@ impl AesKey {
         }
     }
 
-    // The key, which has 32 bytes.
+    /// The key, which has 32 bytes.
     pub fn large(&self) -> &[u8; 32]
         requires { length self.now ≡ 32 }
         ensures { result.now ≡ self.now }

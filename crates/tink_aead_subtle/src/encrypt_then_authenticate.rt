@@ -17,10 +17,9 @@ const MIN_TAG_SIZE: usize = 10;
 // More bytes of associated data than there are of which the number of bits fits 64 bits.
 const TOO_MUCH_DATA: usize = 1 << 61;
 
-/// An AEAD by a cipher and a MAC (draft-mcgrew-aead-aes-cbc-hmac-sha2-05, section 2.1). What it
-/// makes of a text is the cipher's output and a tag of `tag_size` bytes, which is the MAC of the
-/// associated data, the cipher's output, and the number of bits of the data in eight bytes, high
-/// byte first.
+/// An AEAD by a cipher and a MAC (draft-mcgrew-aead-aes-cbc-hmac-sha2-05, section 2.1). Its ciphertext is the
+/// cipher's output and a tag of `tag_size` bytes. The tag is the MAC of the associated data, the cipher's
+/// output, and the data's length in bits in eight bytes, high byte first.
 #[derive(Drop)]
 pub struct EncryptThenAuthenticate<C, M> {
     ind_cpa_cipher: C,
@@ -112,9 +111,9 @@ impl<C: IndCpaCipher, M: Mac> Aead for EncryptThenAuthenticate<C, M> {
         composed_decrypts (C.decrypts a.ind_cpa_cipher) (M.verifies a.mac) a.tag_size input aad };
 
     /// # Errors
-    /// The cipher's refusals, else `DataTooLong` where the number of bits of the associated data does
-    /// not fit 64 bits, else the MAC's refusals, else `BadTagSize` where its tag has not `tag_size`
-    /// bytes. `OutOfMemory` may come in place of each.
+    /// Those of the cipher. Else `DataTooLong` if the number of bits of the associated data does not fit 64
+    /// bits. Else those of the MAC. Else `BadTagSize` if its tag has not `tag_size` bytes. `OutOfMemory` may
+    /// come in place of each.
     fn encrypt(
         &self,
         alloc: Global,
@@ -127,10 +126,9 @@ impl<C: IndCpaCipher, M: Mac> Aead for EncryptThenAuthenticate<C, M> {
     }
 
     /// # Errors
-    /// `TooShort` where the ciphertext has fewer than `tag_size` bytes, else `DataTooLong` as where
-    /// it encrypts, else `MacMismatch` where the MAC does not accept the tag, else the cipher's
-    /// refusals. `OutOfMemory` may come in place of each. A text is given only where the MAC accepts
-    /// the tag.
+    /// `TooShort` if the ciphertext has fewer than `tag_size` bytes. Else `DataTooLong` as for encryption.
+    /// Else `MacMismatch` if the MAC does not accept the tag. Else those of the cipher. `OutOfMemory` may
+    /// come in place of each. A text is given only where the MAC accepts the tag.
     fn decrypt(
         &self,
         alloc: Global,

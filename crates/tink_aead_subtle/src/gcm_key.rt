@@ -16,8 +16,8 @@ use tink_io::{Draws, Kind, TinkError};
 use tink_primitives::CloneIn;
 use tink_proto::Bytes;
 
-// A key of 16 or 32 bytes, with its schedule and the tables of its hash key. These have some 19 KB: they are on the heap, so
-// that a key is moved cheaply. Contracts see its bytes.
+/// A key of AES-GCM (SP 800-38D) of 16 or 32 bytes, with its schedule and the tables of its hash key. A contract sees
+/// its bytes.
 #[derive(Drop)]
 pub struct GcmKey {
     key: AesKey,
@@ -43,10 +43,10 @@ impl Model for GcmKey {
 }
 
 impl GcmKey {
-    // The key, whose schedule and tables are made here, once.
-    //
-    // # Errors
-    // `OutOfMemory`.
+    /// The key. Its schedule and its tables are made here, once.
+    ///
+    /// # Errors
+    /// `OutOfMemory`.
     pub fn new(alloc: Global, key: AesKey) -> Result<GcmKey, TinkError>
         ensures { Answers result (Ok key) }
     {
@@ -56,7 +56,15 @@ impl GcmKey {
         }
     }
 
-    // The nonce, which is drawn, and the encryption of the text under it.
+    /// Draws a nonce of 12 bytes. The answer is the nonce, the ciphertext under it and a tag of 16 bytes.
+    ///
+    /// # Errors
+    /// The first that applies:
+    /// - `DataTooLong` if the associated data have more than 2^36 bytes;
+    /// - `TextTooLong` if the plaintext has more bytes than AES-GCM takes;
+    /// - `RandomFault` if fewer than 12 random bytes are left.
+    ///
+    /// `OutOfMemory`. No random bytes are taken then.
     pub fn encrypt(
         &self,
         alloc: Global,
@@ -78,7 +86,16 @@ impl GcmKey {
         }
     }
 
-    // The text of a nonce and what is sealed under it.
+    /// The plaintext of a nonce of 12 bytes, a ciphertext and a tag of 16 bytes.
+    ///
+    /// # Errors
+    /// The first that applies:
+    /// - `TooShort` if there are fewer than 28 bytes;
+    /// - `DataTooLong` if the associated data have more than 2^36 bytes;
+    /// - `TextTooLong` if the plaintext has more bytes than AES-GCM takes;
+    /// - `DecryptFailed` if it is the ciphertext of no plaintext with these associated data.
+    ///
+    /// `OutOfMemory`.
     pub fn decrypt(
         &self,
         alloc: Global,

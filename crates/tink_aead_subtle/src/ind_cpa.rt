@@ -19,6 +19,9 @@ pub trait IndCpaCipher {
     ghost decrypts: { Self → List ℕ → Result (List ℕ) Kind };
 
     /// The ciphertext of `plaintext`.
+    ///
+    /// # Errors
+    /// What the meaning `encrypts` gives for the plaintext and the random bytes left. `OutOfMemory`.
     fn encrypt(
         &self,
         alloc: Global,
@@ -28,6 +31,9 @@ pub trait IndCpaCipher {
         ensures replies { Replies result (encrypts self.now plaintext.now draws.old) draws.old draws.new };
 
     /// The text of `ciphertext`.
+    ///
+    /// # Errors
+    /// What the meaning `decrypts` gives for the ciphertext. `OutOfMemory`.
     fn decrypt(&self, alloc: Global, ciphertext: &[u8]) -> Result<Bytes, TinkError>
         ensures answer { Answers result (decrypts self.now ciphertext.now) };
 

@@ -18,9 +18,8 @@ pub fn law_aes_gcm()
     ensures encrypts { (key : List ℕ) → Encrypts MOST_GCM (gcm_encrypts key) }
 {}
 
-/// Under a key of 16 or 32 bytes AES-GCM-SIV accepts exactly the encryptions of some text, each as that of its text,
-/// and decrypts again what it encrypts. With twelve draws each text and associated data within the limits are
-/// encrypted.
+/// Under a key of 16 or 32 bytes AES-GCM-SIV accepts exactly the encryptions of some text, each as that of its text.
+/// It decrypts what it encrypts. With twelve draws each text and associated data within the limits are encrypted.
 pub fn law_aes_gcm_siv()
     ensures accepts { (key : List ℕ) → IsAesKey key
         → AcceptsExactly (gcm_siv aes key) MOST_GCM_SIV (gcm_siv_decrypts key) }
@@ -28,19 +27,19 @@ pub fn law_aes_gcm_siv()
     ensures encrypts { (key : List ℕ) → Encrypts MOST_GCM_SIV (gcm_siv_encrypts key) }
 {}
 
-/// AES in counter mode, with vectors of at most 16 bytes, decrypts exactly what is a vector and some text in counter
-/// mode under it, each to its text. What it encrypts is decrypted again, and with as many draws as a vector has bytes
-/// each text is encrypted.
+/// AES in counter mode has vectors of at most 16 bytes. It decrypts exactly the inputs of a vector and some text in
+/// counter mode under it. Each is decrypted to its text. What it encrypts is decrypted again, and with as many draws
+/// as a vector has bytes each text is encrypted.
 pub fn law_aes_ctr()
     ensures accepts { CounterDecryptsExactly }
     ensures undoes { CounterUndoes }
     ensures encrypts { CounterEncrypts }
 {}
 
-/// AES in counter mode, with vectors of at most 16 bytes, and then a MAC that gives each message one tag of one size
-/// and accepts that alone, as HMAC, accept exactly the outputs of the cipher for some text with their tags, with data
-/// of fewer than 2^61 bytes, each as that of its text. What is encrypted is decrypted again, and with as many draws as
-/// a vector has bytes each text is encrypted with such data.
+/// A MAC follows AES in counter mode with vectors of at most 16 bytes. It gives each message one tag of one size and
+/// accepts that alone, as HMAC does. With data of fewer than 2^61 bytes, they accept exactly the outputs of the
+/// cipher for some text with their tags. Each is decrypted to its text. They decrypt what they encrypt. If as many
+/// draws are left as a vector has bytes, they encrypt each text, with data of fewer than 2^61 bytes.
 pub fn law_aes_ctr_then_mac()
     ensures accepts { ComposedAcceptsExactly }
     ensures undoes { ComposedUndoes }

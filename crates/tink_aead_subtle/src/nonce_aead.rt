@@ -25,7 +25,7 @@ const LEAST_SIZE: usize = AES_GCM_IV_SIZE + AES_GCM_TAG_SIZE;
 // The most bytes of associated data.
 const MOST_DATA: usize = 1 << 36;
 
-// What seals a text under a nonce of 12 bytes, and adds a tag of 16.
+/// An AEAD under a nonce of 12 bytes, whose ciphertexts end with a tag of 16 bytes.
 pub trait NonceAead {
     // The encryption of a text under a nonce and associated data.
     ghost seals: { Self → List ℕ → List ℕ → List ℕ → List ℕ };
@@ -36,9 +36,15 @@ pub trait NonceAead {
     // The most bytes of a text.
     ghost most: { ℕ };
 
+    /// The bytes that a plaintext has at most.
     fn most_text() -> usize
         ensures { result ≡ most };
 
+    /// Writes the ciphertext and the tag of a text into `out`, which has 16 bytes more than the text.
+    ///
+    /// # Errors
+    /// `DataTooLong` if the associated data have more than 2^36 bytes; then `TextTooLong` if the text has more than
+    /// `most_text` bytes. `out` is as before.
     fn seal_into(
         &self,
         nonce: &[u8],
@@ -51,6 +57,15 @@ pub trait NonceAead {
         ensures { IsSealed (seals self.now nonce.now additional_data.now) most additional_data.now text.now
             out.old out.new result };
 
+    /// Writes the plaintext of a ciphertext and its tag into `out`, which has 16 bytes less.
+    ///
+    /// # Errors
+    /// The first that applies:
+    /// - `DataTooLong` if the associated data have more than 2^36 bytes;
+    /// - `TextTooLong` if the ciphertext and its tag have more than `most_text` and 16 bytes;
+    /// - `DecryptFailed` if no plaintext is encrypted to them.
+    ///
+    /// `out` is as before.
     fn open_into(
         &self,
         nonce: &[u8],
@@ -185,7 +200,15 @@ fn seal_behind<A: NonceAead>(
     }
 }
 
-// The nonce, which is drawn last, and the encryption of the text under it.
+/// Draws a nonce of 12 bytes, last. The answer is the nonce, the ciphertext under it and a tag of 16 bytes.
+///
+/// # Errors
+/// The first that applies:
+/// - `DataTooLong` if the associated data have more than 2^36 bytes;
+/// - `TextTooLong` if the plaintext has more than `most_text` bytes;
+/// - `RandomFault` if fewer than 12 random bytes are left.
+///
+/// `OutOfMemory`. No random bytes are taken then.
 pub fn encrypt<A: NonceAead>(
     aead: &A,
     alloc: Global,
@@ -208,7 +231,16 @@ pub fn encrypt<A: NonceAead>(
     Ok(Bytes::from_vec(out))
 }
 
-// The text of a nonce and what is sealed under it.
+/// The plaintext of a nonce of 12 bytes, a ciphertext and a tag of 16 bytes.
+///
+/// # Errors
+/// The first that applies:
+/// - `TooShort` if there are fewer than 28 bytes;
+/// - `DataTooLong` if the associated data have more than 2^36 bytes;
+/// - `TextTooLong` if the plaintext has more than `most_text` bytes;
+/// - `DecryptFailed` if it is the ciphertext of no plaintext with these associated data.
+///
+/// `OutOfMemory`.
 pub fn decrypt<A: NonceAead>(
     aead: &A,
     alloc: Global,

@@ -15,8 +15,8 @@ use tink_io::{Kind, TinkError};
 use tink_sets::cryptofmt::NON_RAW_PREFIX_SIZE;
 use tink_sets::{TypedEntry, TypedPrimitiveSet};
 
-/// What each entry of a set is asked about an input without its prefix, as whether a MAC is accepted or what a
-/// ciphertext opens to.
+/// A question to each entry of a set about an input without its prefix. Examples: whether a MAC is accepted,
+/// which text a ciphertext opens to.
 pub trait Question<P> {
     /// What an entry gives that accepts.
     type Answer: Drop;
@@ -25,6 +25,9 @@ pub trait Question<P> {
     ghost answers: { Self → TypedEntry P → List ℕ → Result Self.Answer Kind };
 
     /// The answer of `entry` on `input`.
+    ///
+    /// # Errors
+    /// What the meaning `answers` gives for the entry and the input. `OutOfMemory`.
     fn ask(
         &self,
         alloc: Global,
@@ -37,8 +40,8 @@ pub trait Question<P> {
     ghost answers_told: { (q : Self) (entry : TypedEntry P) (input : List ℕ) → IsTold (answers q entry input) };
 }
 
-/// The answer of the first entry that accepts: the entries of the input's first five bytes are asked on the rest, in
-/// their order, where the input is longer than that; then those without a prefix on the whole input.
+/// The answer of the first entry that accepts. If the input is longer than five bytes, the entries of its first five
+/// bytes try the rest, in their order. Then the entries without a prefix try the whole input.
 ///
 /// # Errors
 /// `none` exactly where no entry accepts; an entry's `OutOfMemory` ends the call as such.

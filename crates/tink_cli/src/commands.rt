@@ -26,9 +26,9 @@ use tink_system::{System, Trouble};
 /// Does what the words say, over a system, standard output and standard error, and answers the status.
 ///
 /// If the words are those of the program over the standard streams, it is that program. If they spell no command, the status is
-/// 2. If a command over files ends by 0, exactly what it means was done: to the files that the words name, by the keys, the
-/// associated data and the ids that they name, and by the next random bytes of the system. If it ends by another status, every
-/// file is as it was.
+/// 2. If a command over files ends by 0, exactly what it means was done to the files that the words name. It used the
+/// keys, the associated data and the ids that the words name, and the next random bytes of the system. If it ends by
+/// another status, every file is as it was.
 pub fn run<Y: System, K: Sink, E: Sink>(
     alloc: Global,
     system: &mut Y,

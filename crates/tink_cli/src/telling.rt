@@ -1,4 +1,4 @@
-//! What is written on standard error about words that spell no command.
+//! Messages on standard error about words that spell no command.
 
 ghost use Rattle.std.specs.Prelude.{◌≡◌};
 

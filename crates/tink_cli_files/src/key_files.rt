@@ -60,8 +60,8 @@ pub fn edit_keys<P: Place>(
 /// Saves a file with a new primary key by the template of a name, in its own format. The other keys stay.
 ///
 /// # Errors
-/// `BadJson` exactly where the file is JSON by its first byte, and spells no keyset; those of `rotate` of
-/// `tink`, and `WriteFault`: what was shown stays.
+/// `BadJson` exactly if the file is JSON by its first byte, and spells no keyset. Those of `rotate` of
+/// `tink`, and `WriteFault`. The file under the name stays then.
 pub fn rotate_keys<P: Place>(
     alloc: Global,
     file: Vec<u8>,

@@ -1,6 +1,6 @@
-//! What the commands over files do, over any place where a file appears: files of keys are made, changed, wrapped and
-//! unwrapped, streams sealed, opened and moved to other keys, ranges of them read, and tokens signed and verified, whole or
-//! not at all; streams, their texts and tokens also into any sink.
+//! The commands over files, over any place where a file appears. They make, change, wrap and unwrap files of keys.
+//! They encrypt, decrypt and rewrap streams, and read ranges of them. They sign and verify tokens. A file appears
+//! whole or not at all. Streams, their texts and tokens also go into any sink.
 #![tactic(auto)]
 
 mod key_files;

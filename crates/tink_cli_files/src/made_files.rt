@@ -50,8 +50,9 @@ pub fn new_file(
 /// enabled key may be of another primitive.
 ///
 /// # Errors
-/// The first that applies: `BadJson` exactly if the file is JSON by its first byte, and spells no keyset; `UnknownTemplate`
-/// also if the name is no UTF-8; those of `rotate` of `tink_keygen` if `to_any`, and else those of `rotate_alike`.
+/// The first that applies: `BadJson` exactly if the file is JSON by its first byte, and spells no keyset.
+/// `UnknownTemplate` also if the name is no UTF-8. Those of `rotate` of `tink_keygen` if `to_any`, and else those of
+/// `rotate_alike`.
 pub fn rotated_file(
     alloc: Global,
     file: Vec<u8>,
@@ -84,9 +85,8 @@ pub fn added_file(
 /// The keyset of a file as a file of this format.
 ///
 /// # Errors
-/// The first that applies: `BadJson` exactly if the file is JSON by its first byte, and spells no keyset; `BadKeyset`
-/// exactly if it is not, and spells no keyset; `InvalidKeyset` exactly if the keyset is not valid. `OutOfMemory` may come in
-/// place of each.
+/// The first that applies: Exactly if the file spells no keyset, `BadJson` if it is JSON by its first byte, and else
+/// `BadKeyset`. `InvalidKeyset` exactly if the keyset is not valid. `OutOfMemory` may come in place of each.
 pub fn converted_file(alloc: Global, file: Vec<u8>, format: Format) -> Result<Bytes, TinkError>
     ensures { Answers result (converted_file file.items format) }
 {

@@ -14,8 +14,8 @@ use tink_io::{Place, TinkError};
 use tink_range::{ReadAt, Steps};
 use tink_rewrap::ranges::run_range;
 
-/// Writes a range of the text of the stream that an object is, as `run_range` of `tink_rewrap`, into a draft,
-/// which is shown where all of it was done, and else taken away.
+/// Writes a range of the text of the stream that an object is into a draft, as `run_range` of `tink_rewrap`.
+/// If all of it was done, the draft is shown, and else it is discarded.
 ///
 /// # Errors
 /// Those of `run_range`, and `WriteFault` where the draft could not be shown: what was shown stays.

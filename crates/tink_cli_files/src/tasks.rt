@@ -1,4 +1,5 @@
-//! What is made of the bytes of a source: a stream, its text, a moved stream, a token or its payload.
+//! Tasks over the bytes of a source. They make a stream, its text, a rewrapped stream, a token or its
+//! payload.
 
 ghost use Rattle.std.specs.Prelude.{◌≡◌, ℕ, List, Some, None, true, false, IfErr, IfOk, OnErr};
 ghost use Rattle.tink_io.specs.Outside.{FaultsStay, outside_of, Told};
@@ -14,7 +15,7 @@ use tink_run::report::{Command, Report};
 use tink_run::run::run;
 use tink_tokens::{write_payload, write_token};
 
-/// What is made of the bytes of a source under a keyset.
+/// A task over the bytes of a source under a keyset.
 #[derive(Clone, Copy)]
 pub enum Task<'k> {
     /// A stream is sealed or opened.
@@ -28,8 +29,8 @@ pub enum Task<'k> {
 }
 
 /// Writes what a task makes of a source's bytes, and answers the report of a stream; a token has none. `aad` is the
-/// associated data of the stream that is sealed, opened or moved, and is not looked at for a token; only a stream that
-/// is made takes draws.
+/// associated data of the stream that is sealed, opened or moved. It is not read for a token. Only a stream that is
+/// made takes draws.
 ///
 /// # Errors
 /// Those of `run` of `tink_run`, `rewrap` of `tink_rewrap`, or `write_token` or `write_payload` of

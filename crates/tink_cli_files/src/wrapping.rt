@@ -12,8 +12,8 @@ use std::alloc::Global;
 use tink_io::{Draws, Place, TinkError};
 use tink_keyset_io::key_files::Format;
 
-/// Saves the keyset of a file of keys, encrypted by the primary key of a master with the associated data, as a file of
-/// this format.
+/// Saves the keyset of a file of keys as a file of this format. The primary key of a master encrypts it with the
+/// associated data.
 ///
 /// # Errors
 /// Those of `wrapped` of `under_master`, and `WriteFault`: what was shown stays.

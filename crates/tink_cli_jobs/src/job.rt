@@ -10,10 +10,10 @@ use tink_cli_words::Line;
 use tink_io::Kind;
 use tink_system::Trouble;
 
-/// So many random bytes are enough for each command.
+/// The random bytes that are enough for each command.
 pub const DRAWN: usize = 1024;
 
-/// The keys, the associated data, and the names of what is read and written.
+/// The keys, the associated data, and the names of the files that are read and written.
 #[derive(Clone, Copy)]
 pub struct Job<'w> {
     pub keys: KeyWords<'w>,

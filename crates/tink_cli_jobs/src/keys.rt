@@ -14,7 +14,7 @@ use tink_keyset_io::key_files::{Format, wire_bytes};
 use tink_proto::Bytes;
 use tink_system::{System, Trouble};
 
-/// A file of keys has at most so many bytes.
+/// The bytes that a file of keys has at most.
 pub const LIMIT: u64 = 1 << 24;
 
 /// Which keyset a command is given.
@@ -31,9 +31,9 @@ pub struct KeyWords<'w> {
 /// The keyset, in the wire format.
 ///
 /// # Errors
-/// Status 11 if a file is not there or cannot be read; 13, 14, 30 if it is no file of keys, or has more than 16,777,216
-/// bytes; with a master 15 to 18 if the master keyset does not load as AEADs, and 34 if none of its keys decrypts the
-/// wrapped file; 10.
+/// Status 11 if a file is not there or cannot be read. 13, 14, 30 if it is no file of keys, or has more than
+/// 16,777,216 bytes. With a master, 15 to 18 if it does not load as AEADs, and 34 if none of its keys decrypts the
+/// wrapped file. 10.
 pub fn keyset_of<'w, Y: System>(
     alloc: Global,
     system: &mut Y,
@@ -51,7 +51,10 @@ pub fn keyset_of<'w, Y: System>(
     }
 }
 
-/// A whole file of keys, or standard input.
+/// A whole file of keys, or standard input: at most 16,777,216 bytes.
+///
+/// # Errors
+/// Status 11 if the file is not there or cannot be read; 13 if it has more bytes; 10.
 pub fn read_keys<'w, Y: System>(
     alloc: Global,
     system: &mut Y,

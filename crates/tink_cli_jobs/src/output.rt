@@ -9,7 +9,7 @@ use crate::job::Job;
 use tink_io::{Sink, write_all};
 use tink_system::{How, Trouble};
 
-/// What is said of a failed standard output, of which the system keeps no reason.
+/// The reason for a failed standard output: the system keeps none.
 pub const WRITE_FAULT: &str = "it could not be written: a full disk, or a closed pipe";
 
 /// How the output of a job becomes a file.

@@ -22,8 +22,8 @@ use tink_system::{How, System, Trouble};
 /// `new TEMPLATE -o KEYS`: a file of one new key.
 ///
 /// # Errors
-/// 24 if no template has the name; 35 if the system gives no random bytes; 12 if a file has the name, or it cannot be
-/// written; 10. No file is changed then.
+/// 24 if no template has the name. 35 if the system gives no random bytes. 12 if a file has the name, or it cannot be
+/// written. 10. No file is changed then.
 pub fn make<'w, Y: System, K: Sink>(
     alloc: Global,
     system: &mut Y,
@@ -121,9 +121,15 @@ fn listed(alloc: Global, keyset: &[u8], is_json: bool) -> Result<Bytes, TinkErro
 /// yet.
 ///
 /// # Errors
-/// 11, 13, 14 and 30 as `show`; 24 if no template has the name; 18 if a rotation is to keys of another primitive and the
-/// words do not force it; 25 if no id is drawn that is not in use; 35; 12 if the file cannot be written, or another change
-/// of it is at work; 10. No file is changed then.
+/// - 11, 13, 14 and 30 as `show`;
+/// - 24 if no template has the name;
+/// - 18 if a rotation is to keys of another primitive and the words do not force it;
+/// - 25 if no unused id is drawn;
+/// - 35 if the system gives no random bytes;
+/// - 12 if the file cannot be written, or another change of it is at work;
+/// - 10.
+///
+/// No file is changed then.
 pub fn grow<'w, Y: System>(
     alloc: Global,
     system: &mut Y,
@@ -148,9 +154,9 @@ pub fn grow<'w, Y: System>(
 /// `promote KEYS ID`, and the same of `enable`, `disable`, `destroy` and `delete`: the first key of the id is changed.
 ///
 /// # Errors
-/// 11, 13, 14 and 30 as `show`; 31 if no key has the id; 32 if it is the primary key, which only `promote` and `enable`
-/// take; 33 if its status does not allow the change; 12 if the file cannot be written, or another change of it is at work;
-/// 10. No file is changed then.
+/// 11, 13, 14 and 30 as `show`. 31 if no key has the id. 32 if it is the primary key, which only `promote` and
+/// `enable` take. 33 if its status does not allow the change. 12 if the file cannot be written, or another change of
+/// it is at work. 10. No file is changed then.
 pub fn edit<'w, Y: System>(
     alloc: Global,
     system: &mut Y,

@@ -18,8 +18,8 @@ use tink_system::{End, How, System, Trouble};
 /// Saves what a call made as a new file, or writes it to standard output if the name is a dash.
 ///
 /// # Errors
-/// That of the call, of the file `blamed`; 12 if a file has the name, or it cannot be written, or standard output is a
-/// terminal; 10.
+/// That of the call, of the file `blamed`. 12 if a file has the name, or it cannot be written, or standard output is a
+/// terminal. 10.
 pub fn save_new<'w, Y: System, K: Sink>(
     alloc: Global,
     system: &mut Y,
@@ -77,7 +77,7 @@ pub fn save_in<'w, Y: System>(
     }
 }
 
-/// Takes the draft away: nothing is saved.
+/// Discards a draft, and answers with the error that was given, or with that of ending the draft. Nothing is saved.
 pub fn give_up<'w, Y: System>(
     alloc: Global,
     system: &mut Y,

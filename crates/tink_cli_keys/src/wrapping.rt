@@ -48,9 +48,14 @@ fn words_of<'w>(line: &Line<'w>) -> Option<Words<'w>>
 /// `wrap`: a new file has the keyset of a file of keys, encrypted by the primary key of a master.
 ///
 /// # Errors
-/// 11, 13, 14 and 30 if a file cannot be read or is no file of keys; 15 to 18 if the master does not load as AEADs; 34 if the
-/// master refuses; 35 if the system gives no random bytes; 12 if the output is the master, a file has its name, or it cannot
-/// be written; 10. No file is changed then.
+/// - 11, 13, 14 and 30 if a file cannot be read or is no file of keys;
+/// - 15 to 18 if the master does not load as AEADs;
+/// - 34 if the master refuses;
+/// - 35 if the system gives no random bytes;
+/// - 12 if the output is the master, a file has its name, or it cannot be written;
+/// - 10.
+///
+/// No file is changed then.
 pub fn wrap<'w, Y: System, K: Sink>(
     alloc: Global,
     system: &mut Y,
@@ -122,9 +127,13 @@ fn wrap_keys<'w, Y: System, K: Sink>(
 /// `unwrap`: a new file has the keyset that a master decrypts of a wrapped file.
 ///
 /// # Errors
-/// 11, 13, 14 and 30 if a file cannot be read or is no wrapped file; 15 to 18 if the master does not load as AEADs; 34 if no
-/// key of the master decrypts it with these data; 12 if the output is the master or the wrapped file, a file has its name, or
-/// it cannot be written; 10. No file is changed then.
+/// - 11, 13, 14 and 30 if a file cannot be read or is no wrapped file;
+/// - 15 to 18 if the master does not load as AEADs;
+/// - 34 if no key of the master decrypts it with these data;
+/// - 12 if the output is the master or the wrapped file, a file has its name, or it cannot be written;
+/// - 10.
+///
+/// No file is changed then.
 pub fn unwrap<'w, Y: System, K: Sink>(
     alloc: Global,
     system: &mut Y,

@@ -1,4 +1,4 @@
-//! The command that says what is known of a stream without opening all of it.
+//! The command that writes the key and the sizes of a stream without decrypting all of it.
 
 ghost use Rattle.std.specs.Prelude.{◌≡◌, ◌≤◌, ◌<◌};
 
@@ -14,8 +14,9 @@ use tink_range::Steps;
 use tink_rewrap::info::{StreamInfo, stream_info};
 use tink_system::{System, Trouble};
 
-/// `info`: writes the id of the key that opens the stream of a file, its segments, and the bytes of its plaintext and of a whole
-/// segment, a line each. The first and the last segment are opened, and what is between them is not checked.
+/// `info`: writes four lines about the stream of a file. They are the id of the key that opens it, its segments, and
+/// the bytes of its plaintext and of a whole segment. The first and the last segment are opened, and those between
+/// them are not checked.
 ///
 /// # Errors
 /// Those of `stream_info` of `tink_rewrap` and of `keyset_of`, 11 if the file cannot be read, and 12 if standard output

@@ -17,8 +17,8 @@ use tink_system::{System, Trouble};
 /// Does a task of the job's input, under a keyset and the job's associated data, to the job's output.
 ///
 /// # Errors
-/// Those of the task by their statuses; 11 if the input cannot be read, 12 if the output cannot be written, 35 if the system
-/// gives no random bytes; 10. No file is changed then.
+/// Those of the task by their statuses. 11 if the input cannot be read. 12 if the output cannot be written. 35 if the
+/// system gives no random bytes. 10. No file is changed then.
 pub fn perform<'w, Y: System, K: Sink>(
     alloc: Global,
     system: &mut Y,
@@ -246,7 +246,11 @@ fn put_to_draft<'w, Y: System>(
     }
 }
 
-/// The end of a task by its answer: an error is that of a file, and `reason` is why the output failed, if it did.
+/// The end of a task by its answer. `reason` is why the output failed, if it did.
+///
+/// # Errors
+/// That of the task, by its status: 11 if the input failed, 12 if the output failed, else the status of the error's
+/// kind.
 pub fn ended<'w, Y: System>(
     system: &Y,
     answer: Result<Option<Report>, TinkError>,

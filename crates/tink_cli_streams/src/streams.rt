@@ -19,8 +19,8 @@ use tink_proto::Bytes;
 use tink_run::report::Command;
 use tink_system::{End, System, Trouble};
 
-/// `encrypt`, `decrypt`, `sign` and `verify`: what the command makes of the whole input under the keyset that the words
-/// name, with the associated data of the words.
+/// `encrypt`, `decrypt`, `sign` and `verify`. The command takes the whole input, under the keyset and with the
+/// associated data that the words name.
 ///
 /// # Errors
 /// Those of the task, of `keyset_for` and `perform`, by their statuses. No file is changed then.

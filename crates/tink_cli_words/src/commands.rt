@@ -17,9 +17,11 @@ pub struct Given<'w> {
 /// The command of the first word, with what the words behind it say.
 ///
 /// # Errors
-///
-/// The first word that is wrong, from left to right; else what the command must have and is not given, in the order of
-/// its usage line; else an option that needs another one; else the first value that cannot be read.
+/// The first that applies:
+/// - the first word that is wrong, from left to right;
+/// - a word that the command must have and is not given, in the order of its usage line;
+/// - an option that needs another one;
+/// - the first value that cannot be read.
 pub fn parse(words: &[Vec<u8>]) -> Result<Given<'_>, Wrong<'_>>
     ensures { result ≡ given (byte_words words.now) }
 {

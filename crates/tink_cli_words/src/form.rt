@@ -8,54 +8,54 @@ use crate::names::value_named;
 use crate::options::has;
 use crate::{Operand, OptionName};
 
-/// What is done.
+/// The action of a command.
 #[derive(Clone, Copy, Debug, PartialEq, Eq)]
 pub enum Action {
-    /// `new`
+    /// `new`.
     New,
-    /// `add`
+    /// `add`.
     Add,
-    /// `keys`
+    /// `keys`.
     Keys,
-    /// `templates`
+    /// `templates`.
     Templates,
-    /// `rotate`
+    /// `rotate`.
     Rotate,
-    /// `promote`
+    /// `promote`.
     Promote,
-    /// `enable`
+    /// `enable`.
     Enable,
-    /// `disable`
+    /// `disable`.
     Disable,
-    /// `destroy`
+    /// `destroy`.
     Destroy,
-    /// `delete`
+    /// `delete`.
     Delete,
-    /// `convert`
+    /// `convert`.
     Convert,
-    /// `encrypt`
+    /// `encrypt`.
     Encrypt,
-    /// `decrypt`
+    /// `decrypt`.
     Decrypt,
-    /// `check`
+    /// `check`.
     Check,
-    /// `info`
+    /// `info`.
     Info,
-    /// `rewrap`
+    /// `rewrap`.
     Rewrap,
-    /// `range`
+    /// `range`.
     Range,
-    /// `sign`
+    /// `sign`.
     Sign,
-    /// `verify`
+    /// `verify`.
     Verify,
-    /// `wrap`
+    /// `wrap`.
     Wrap,
-    /// `unwrap`
+    /// `unwrap`.
     Unwrap,
-    /// `help`
+    /// `help`.
     Help,
-    /// `version`
+    /// `version`.
     Version,
 }
 

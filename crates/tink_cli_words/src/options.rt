@@ -9,39 +9,39 @@ use crate::names::value_named;
 /// An option.
 #[derive(Clone, Copy, Debug, PartialEq, Eq)]
 pub enum OptionName {
-    /// `-k FILE`, `--keys FILE`
+    /// `-k FILE`, `--keys FILE`.
     Keys,
-    /// `-o FILE`, `--output FILE`
+    /// `-o FILE`, `--output FILE`.
     Output,
-    /// `--aad TEXT`
+    /// `--aad TEXT`.
     Aad,
-    /// `--format json|binary`
+    /// `--format json|binary`.
     Format,
-    /// `-t FILE`, `--to FILE`
+    /// `-t FILE`, `--to FILE`.
     To,
-    /// `--to-aad TEXT`
+    /// `--to-aad TEXT`.
     ToAad,
-    /// `--start N`
+    /// `--start N`.
     Start,
-    /// `--length N`
+    /// `--length N`.
     Length,
-    /// `--master FILE`
+    /// `--master FILE`.
     Master,
-    /// `--master-aad TEXT`
+    /// `--master-aad TEXT`.
     MasterAad,
-    /// `--prefix tink|raw|legacy|crunchy`
+    /// `--prefix tink|raw|legacy|crunchy`.
     Prefix,
-    /// `-q`, `--quiet`
+    /// `-q`, `--quiet`.
     Quiet,
-    /// `-h`, `--help`
+    /// `-h`, `--help`.
     Help,
-    /// `--force`
+    /// `--force`.
     Force,
-    /// `--no-clobber`
+    /// `--no-clobber`.
     NoClobber,
-    /// `--any`
+    /// `--any`.
     Any,
-    /// `--json`
+    /// `--json`.
     Json,
 }
 

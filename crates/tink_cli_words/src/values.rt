@@ -8,22 +8,22 @@ use crate::names::value_named;
 /// What a file of keys is written as.
 #[derive(Clone, Copy, Debug, PartialEq, Eq)]
 pub enum FormatName {
-    /// `json`
+    /// `json`.
     Json,
-    /// `binary`
+    /// `binary`.
     Binary,
 }
 
-/// What stands before each output of a key.
+/// The output prefix that the outputs of a key have.
 #[derive(Clone, Copy, Debug, PartialEq, Eq)]
 pub enum PrefixName {
-    /// `tink`
+    /// `tink`.
     Tink,
-    /// `raw`
+    /// `raw`.
     Raw,
-    /// `legacy`
+    /// `legacy`.
     Legacy,
-    /// `crunchy`
+    /// `crunchy`.
     Crunchy,
 }
 

@@ -21,8 +21,8 @@ pub const AES_SIV_KEY_VERSION: u32 = 0;
 /// The URL of AES-SIV keys.
 pub const AES_SIV_TYPE_URL: &str = "type.googleapis.com/google.crypto.tink.AesSivKey";
 
-/// The type of AES-SIV keys. A key builds exactly where its version is 0 and it has 64 bytes. A format makes a key
-/// exactly where its key size is 64.
+/// The type of AES-SIV keys (RFC 5297). A key builds exactly where its version is 0 and it has 64 bytes. A format
+/// makes a key exactly where its key size is 64.
 pub struct AesSivKeys;
 
 /// The manager of AES-SIV keys.

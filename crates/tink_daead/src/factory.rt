@@ -86,8 +86,8 @@ impl<P: DeterministicAead> DeterministicAead for WrappedDeterministicAead<P> {
         }
     }
 
-    /// The text by the first entry that decrypts `ciphertext`: those of its first five bytes are asked on the rest,
-    /// where it is longer than that, then those without a prefix on the whole.
+    /// The plaintext by the first entry that decrypts `ciphertext`. If it is longer than five bytes, the entries of
+    /// its first five bytes try the rest. Then the entries without a prefix try the whole.
     ///
     /// # Errors
     /// `DecryptFailed` exactly where no entry decrypts it; `OutOfMemory`.

@@ -8,8 +8,8 @@ use crate::AesSivKeyManager;
 use tink_primitives::{DeterministicAead, Kinds};
 use tink_registry::KeyManager;
 
-/// The AES-SIV keys of a keyset decrypt an input to a text exactly where the first of them that accepts has what it is
-/// asked on as its encryption of the text: the rest after its prefix, or the whole where it has no prefix.
+/// A keyset's AES-SIV keys decrypt an input to a text exactly if the first key that accepts encrypts the text to what
+/// it tries. It tries the rest behind its prefix, or the whole if it has no prefix.
 pub fn law_keysets_decrypt_exactly()
     ensures { KeysetsDecryptExactly }
 {}
@@ -19,17 +19,19 @@ pub fn law_built_daeads_are_sound()
     ensures { BuildsSoundDaeads aes_siv_encrypts aes_siv_decrypts ⟦<AesSivKeyManager as KeyManager>⟧.builds }
 {}
 
-/// What an enabled key's entry encrypted is decrypted under every keyset in which the key is still enabled: by the same
-/// key managers, whose deterministic AEADs decrypt what they encrypt, and where no entry opens it to another text.
+/// Every keyset in which a key is still enabled decrypts what the key's entry encrypted. The premises: the same key
+/// managers build both, their deterministic AEADs decrypt what they encrypt, and no entry opens the ciphertext to
+/// another text.
 pub fn law_old_ciphertexts_open<M: KeyManager, P: DeterministicAead>()
 where
     M::Family: Kinds<DeterministicAead = P>,
     ensures { OldTextsOpen P.encrypts P.decrypts M.url M.supports M.builds }
 {}
 
-/// What a keyset's deterministic AEADs encrypted is decrypted by those of the keyset that any list of a manager's
-/// commands makes of it, where none of them disables, destroys or deletes a key of the id that was primary: by the same
-/// key managers, whose deterministic AEADs decrypt what they encrypt, and where no entry opens it to another text.
+/// A keyset's deterministic AEADs encrypt, and then a manager's commands edit the keyset. If no command disables,
+/// destroys or deletes a key of the id that was primary, the edited keyset decrypts the ciphertext. The premises: the
+/// same key managers build both, their deterministic AEADs decrypt what they encrypt, and no entry opens the
+/// ciphertext to another text.
 pub fn law_ciphertexts_outlive_commands<M: KeyManager, P: DeterministicAead>()
 where
     M::Family: Kinds<DeterministicAead = P>,

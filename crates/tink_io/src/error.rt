@@ -136,10 +136,12 @@ pub enum Cause {
 /// A refusal of a Tink crate: its kind and nothing else.
 #[derive(Clone, Copy, Debug, PartialEq, Eq)]
 pub struct TinkError {
+    /// Why the call was refused.
     pub kind: Kind,
 }
 
 impl TinkError {
+    /// The error of this kind.
     pub fn new(kind: Kind) -> Self
         ensures { result ≡ record { kind = kind } }
     {

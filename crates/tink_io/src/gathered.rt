@@ -13,16 +13,18 @@ use std::alloc::Global;
 /// The bytes of the memory that `room` gives.
 pub const ROOM: usize = 65_536;
 
-/// A sink for small pieces over a sink that it is lent: they may wait, in a vector that it is lent too, before they are
-/// handed on. What still waits when it is let go is lost: `flush` comes before.
+/// A sink for small pieces over a sink that it is lent. They may wait, in a vector that it is lent too, before they
+/// are handed on. If it is dropped, the bytes that still wait are lost: `flush` comes before.
 #[derive(Drop)]
 pub struct Gathered<'a, K> {
+    /// The sink that gets the pieces together.
     pub sink: &'a mut K,
+    /// The bytes that wait.
     pub waiting: &'a mut Vec<u8>,
 }
 
 impl<'a, K: Sink> Gathered<'a, K> {
-    /// A sink over `sink` for which nothing waits. The capacity of `waiting` stays, and what it holds is let go.
+    /// A sink over `sink` for which nothing waits. The capacity of `waiting` stays, and its bytes are dropped.
     pub fn new(sink: &'a mut K, waiting: &'a mut Vec<u8>) -> Gathered<'a, K>
         ensures lent { result.sink.ghost_name ≡ sink.entry.ghost_name }
         ensures sink { result.sink.now ≡ sink.old }
@@ -37,8 +39,8 @@ impl<'a, K: Sink> Gathered<'a, K> {
     /// Hands on all that waits. Where nothing waits the sink is as before.
     ///
     /// # Errors
-    /// WriteFault where the sink failed: it has got a prefix of what waited, and exactly the rest waits still, so that a
-    /// further flush sends it.
+    /// `WriteFault` if the sink failed. It has got a prefix of the bytes that waited, and exactly the rest waits
+    /// still. A further flush sends it.
     pub fn flush(&mut self) -> Result<(), TinkError>
         ensures sent { OnOk result (Keeps (append_known (K.got self.old.sink.now) self.old.waiting.now.items)
             (K.got self.new.sink.now)) }

@@ -15,23 +15,27 @@ use std::mem;
 #[derive(Drop)]
 pub struct MemPlace {
     alloc: Global,
+    /// The bytes of the draft.
     pub draft: Vec<u8>,
+    /// Whether the draft is there.
     pub has_draft: bool,
-    /// What stands under the name.
+    /// The file under the name.
     pub shown: Option<Vec<u8>>,
-    /// Whether a file that stands there is replaced.
+    /// Whether a file under the name is replaced.
     pub replaces: bool,
     /// Whether the draft may be shown.
     pub can_show: bool,
+    /// The bytes that the draft takes at most.
     pub room: usize,
+    /// How often it has failed.
     pub faults: u64,
     ghost fits: { vec_len draft ≤ room },
     ghost reserved: { room ≤ vec_capacity draft },
 }
 
 impl MemPlace {
-    /// A place with an empty draft that has room for so many bytes, under whose name this stands. A file that stands
-    /// there is replaced.
+    /// A place with an empty draft that has room for `room` bytes. The file under its name has the bytes `shown`, if
+    /// there is one. It is replaced.
     ///
     /// # Errors
     /// `OutOfMemory`.

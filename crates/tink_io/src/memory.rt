@@ -160,7 +160,10 @@ impl MemSink {
         }
     }
 
-    /// Makes room for `n` more bytes than it has taken, or refuses by `OutOfMemory`.
+    /// Makes room for `n` more bytes than it has taken.
+    ///
+    /// # Errors
+    /// `OutOfMemory`. Nothing changes then.
     pub fn reserve(&mut self, _alloc: Global, n: usize) -> Result<(), TinkError>
         ensures made { OnOk result (self.new ≡ record self.old { room = max self.old.room (length self.old.got + n) }) }
         ensures refused { IfErr result (λ e. e ≡ record { kind = OutOfMemory }) }
@@ -309,7 +312,10 @@ impl SureSink {
         }
     }
 
-    /// Makes room for `n` more bytes than it has taken, or refuses by `OutOfMemory`.
+    /// Makes room for `n` more bytes than it has taken.
+    ///
+    /// # Errors
+    /// `OutOfMemory`. Nothing changes then.
     pub fn reserve(&mut self, alloc: Global, n: usize) -> Result<(), TinkError>
         ensures made { OnOk result (self.new ≡ record self.old { room = max self.old.room (length self.old.got + n) }) }
         ensures refused { IfErr result (λ e. e ≡ record { kind = OutOfMemory }) }

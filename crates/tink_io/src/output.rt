@@ -10,8 +10,10 @@ ghost use Rattle.tink_io.specs.declared.error.Kind.TheVariants.{WriteFault};
 
 use crate::{Cause, Kind, Sink, TinkError};
 
-/// Writes all of the bytes, in as many calls as the sink wants, or refuses by `WriteFault` where
-/// the sink failed: a prefix of them is written then.
+/// Writes all of the bytes, in as many calls as the sink wants.
+///
+/// # Errors
+/// `WriteFault` if the sink failed. A prefix of the bytes is written then.
 pub fn write_all<K: Sink>(sink: &mut K, bytes: &[u8]) -> Result<(), TinkError>
     ensures written { OnOk result (Appends (K.got sink.old) (K.got sink.new) bytes.now) }
     ensures prefix { OnErr result (AppendsPrefix (K.got sink.old) (K.got sink.new) bytes.now) }
@@ -30,8 +32,8 @@ pub fn write_all<K: Sink>(sink: &mut K, bytes: &[u8]) -> Result<(), TinkError>
     Ok(())
 }
 
-/// Writes the text of a kind and a newline. A sink that fails ends the line where it stands: a
-/// prefix of it is written then. It takes no memory.
+/// Writes the text of a kind and a newline. If the sink fails, a prefix of the line is written. It takes no
+/// memory.
 pub fn write_line<K: Sink>(sink: &mut K, kind: Kind)
     ensures line { WritesOrFaults (K.got sink.old) (K.got sink.new)
         (K.faults sink.old) (K.faults sink.new) (kind_line kind) }

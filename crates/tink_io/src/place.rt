@@ -7,8 +7,8 @@ ghost use Rattle.tink_io.specs.Places.{IsShown};
 
 use crate::{Failed, Sink};
 
-/// Where one file is to appear under a name. What is written goes to a draft beside it, which is then shown under the
-/// name, or taken away.
+/// Where one file is to appear under a name. Writes go to a draft beside it. The draft is then shown under the name,
+/// or discarded.
 pub trait Place: Sink {
     // What stands under the name, where it is given: no file, or the bytes of one.
     ghost shown: { Self → Option (Option (List ℕ)) };
@@ -24,8 +24,9 @@ pub trait Place: Sink {
 
     /// Shows the draft under the name, whole and at once, so that no draft is left.
     ///
-    /// `Failed` leaves what was shown, and raises the count. It comes where a file stands under the name and none is to
-    /// be replaced.
+    /// # Errors
+    /// `Failed` if it could not be shown, as when a file has the name and none is to be replaced. It leaves what was
+    /// shown, and raises the count of faults.
     fn show(&mut self) -> Result<(), Failed>
         requires { has_draft self.old ≡ true }
         ensures shown { OnOk result
@@ -35,7 +36,7 @@ pub trait Place: Sink {
         ensures cause { CountsFault (Self.faults self.old) (Self.faults self.new) result }
         ensures rest { rest self.old self.new };
 
-    /// Takes the draft away. What is shown stays.
+    /// Takes the draft away. The file under the name stays.
     fn discard(&mut self)
         ensures gone { has_draft self.new ≡ false }
         ensures shown { shown self.new ≡ shown self.old }

@@ -1,4 +1,4 @@
-//! What a refusal is told by: the status of the program that ends on it, and what helps.
+//! The status of the program that ends on an error, and what helps.
 
 ghost use Rattle.std.specs.Prelude.{◌≡◌};
 ghost use Rattle.tink_io.specs.Statuses.{kind_status};

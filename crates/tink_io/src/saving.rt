@@ -7,8 +7,8 @@ ghost use Rattle.tink_io.specs.Places.{Ends, IsSaved};
 
 use crate::{Kind, Place, TinkError, write_all};
 
-/// Ends a draft by the answer of what wrote it: where that is Ok the draft is shown, and else it is taken away and
-/// what was shown stays.
+/// Ends a draft by the answer of the call that wrote it. If that is Ok, the draft is shown. Else it is taken away,
+/// and the file under the name stays.
 ///
 /// # Errors
 /// That of the answer; `WriteFault` where the draft could not be shown.

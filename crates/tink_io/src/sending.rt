@@ -36,8 +36,10 @@ fn drop_first(bytes: &mut Vec<u8>, n: usize)
     bytes.truncate(len - n);
 }
 
-/// Writes all that waits, or up to where the sink fails: the rest waits then. Where nothing waits the sink is not
-/// called.
+/// Writes all that waits. If nothing waits, the sink is not called.
+///
+/// # Errors
+/// `Failed` if the sink failed. What was not written waits still.
 pub fn drain<K: Sink>(sink: &mut K, waiting: &mut Vec<u8>) -> Result<(), Failed>
     ensures empty { OnOk result (waiting.new.items ≡ []) }
     ensures handed { HandsOn (K.got sink.old) (K.got sink.new) waiting.old.items waiting.new.items }

@@ -30,7 +30,10 @@ fn member<'v>(object: &'v Value, camel: &str, snake: &str) -> Option<&'v Value>
     if found.is_null() { None } else { Some(found) }
 }
 
-// `BadJson` where the value is no object.
+/// Whether a value is an object.
+///
+/// # Errors
+/// `BadJson` exactly if it is none.
 pub fn require_object(value: &Value) -> Result<(), ProtoError>
     ensures { Reads BadJson result (an_object (view value.now)) }
 {
@@ -41,7 +44,10 @@ pub fn require_object(value: &Value) -> Result<(), ProtoError>
     }
 }
 
-// A text, empty where it is absent.
+/// The text of a member, which has either name; empty if there is no member, or it is null.
+///
+/// # Errors
+/// `BadJson` exactly if the member is no string, or `OutOfMemory`.
 #[tactic(auto, unfolding(crate::specs::Fields::text_field))]
 pub fn text_in(alloc: Global, object: &Value, camel: &str, snake: &str) -> Result<Text, ProtoError>
     ensures { Reads BadJson result (text_field camel.now snake.now (view object.now)) }
@@ -55,7 +61,11 @@ pub fn text_in(alloc: Global, object: &Value, camel: &str, snake: &str) -> Resul
     }
 }
 
-// Bytes, none where they are absent.
+/// The bytes of a member, which has either name; none if there is no member, or it is null. They are in base 64 with
+/// padding (RFC 4648, section 4).
+///
+/// # Errors
+/// `BadJson` exactly if the member is no string of base 64, or `OutOfMemory`.
 #[tactic(auto, unfolding(crate::specs::Fields::bytes_field))]
 pub fn bytes_in(
     alloc: Global,
@@ -85,7 +95,7 @@ fn are_digits(bytes: &[u8]) -> bool
     bytes.iter().all(|byte| byte.is_ascii_digit())
 }
 
-// The number of decimal digits that fits 64 bits.
+/// The number that decimal digits spell, if it fits 64 bits.
 pub fn digits_of_text(text: &str) -> Option<u64>
     ensures { result ≡ digits_number text.now }
 {
@@ -111,7 +121,10 @@ fn whole_number(value: &Value) -> Option<u32>
     u32::try_from(number).ok()
 }
 
-// A number of 32 bits, 0 where it is absent.
+/// The number of 32 bits of a member, which has either name; 0 if there is no member, or it is null.
+///
+/// # Errors
+/// `BadJson` exactly if the member is neither a whole number below 2^32 nor a string of its digits.
 #[tactic(auto, unfolding(crate::specs::Fields::number_field))]
 pub fn number_in(object: &Value, camel: &str, snake: &str) -> Result<u32, ProtoError>
     ensures { Reads BadJson result (number_field camel.now snake.now (view object.now)) }
@@ -139,7 +152,10 @@ fn whole_enum(value: &Value) -> Option<i32>
     i32::try_from(number).ok()
 }
 
-// An enum, 0 where it is absent.
+/// The number of an enum in a member, which has either name; 0 if there is no member, or it is null.
+///
+/// # Errors
+/// `BadJson` exactly if the member is neither a whole number from -2^31 to 2^31 - 1 nor a name of the enum.
 #[tactic(auto, unfolding(crate::specs::Fields::enum_field))]
 pub fn enum_in<N: Named>(object: &Value, camel: &str, snake: &str) -> Result<i32, ProtoError>
     ensures { Reads BadJson result (enum_field N.names camel.now snake.now (view object.now)) }
@@ -159,7 +175,10 @@ pub fn enum_in<N: Named>(object: &Value, camel: &str, snake: &str) -> Result<i32
     }
 }
 
-// A message that may be absent.
+/// The message of a member, which has either name; `None` if there is no member, or it is null.
+///
+/// # Errors
+/// `BadJson` exactly if the member is not the message, or `OutOfMemory`.
 #[tactic(auto, unfolding(crate::specs::Fields::message_field))]
 pub fn message_in<M: Json>(
     alloc: Global,
@@ -186,7 +205,10 @@ fn items_in<M: Json>(alloc: Global, values: &Vec<Value>) -> Result<Vec<M>, Proto
     Ok(messages)
 }
 
-// The messages of a list, none where it is absent.
+/// The messages of a member, which has either name and is a list; none if there is no member, or it is null.
+///
+/// # Errors
+/// `BadJson` exactly if the member is no list of messages, or `OutOfMemory`.
 #[tactic(auto, unfolding(crate::specs::Fields::list_field))]
 pub fn list_in<M: Json>(
     alloc: Global,

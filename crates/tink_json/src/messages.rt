@@ -40,6 +40,9 @@ pub trait Json: Drop {
         ensures { Reads BadJson result (form (view json.now)) };
 
     /// Writes the members of the message, those of defaults too; a message that is absent is left out.
+    ///
+    /// # Errors
+    /// `AllocError` if there is no memory.
     fn put_members(&self, members: &mut Members, alloc: Global) -> Result<(), AllocError>
         ensures { OnOk result (members_view members.old.entries ≡ no_members
             → object (members_view members.new.entries) ≡ value self.now) };
@@ -48,6 +51,9 @@ pub trait Json: Drop {
     ghost plain: { (m : Self) → holds_float (value m) ≡ false };
 
     /// The value of the message, an object of its members.
+    ///
+    /// # Errors
+    /// `AllocError` if there is no memory.
     final fn to_value(&self, alloc: Global) -> Result<Value, AllocError>
         ensures { IfOk result (λ v. view v ≡ value self.now) }
     {
@@ -59,9 +65,11 @@ pub trait Json: Drop {
     /// The message of a text, which is one value.
     ///
     /// # Errors
-    /// `BadJson` exactly where the text is not UTF-8, is not one value of JSON that nests no deeper
-    /// than 127, has a number that is no whole number of 64 bits, or is not the message; and
-    /// `OutOfMemory`.
+    /// `OutOfMemory`, or `BadJson` exactly if one of these holds:
+    /// - the text is not UTF-8;
+    /// - it is not one value of JSON that nests no deeper than 127;
+    /// - a number in it is no whole number of 64 bits;
+    /// - the value is not the message.
     final fn from_json(alloc: Global, text: &[u8]) -> Result<Self, ProtoError>
         ensures exact { Reads BadJson result (message_of form text.now) }
     {

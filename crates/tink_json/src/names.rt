@@ -5,15 +5,15 @@ ghost use Rattle.tink_json.specs.Names.{Names, numbered, named};
 
 use tink_proto::{KeyMaterialType, KeyStatusType, OutputPrefixType};
 
-// An enum whose numbers have names.
+/// An enum whose numbers have names.
 pub trait Named {
     ghost names: { Names };
 
-    // The number of a name.
+    /// The number of a name.
     fn number(name: &str) -> Option<i32>
         ensures { result ≡ numbered names name.now };
 
-    // The name of a number.
+    /// The name of a number.
     fn name(number: i32) -> Option<&'static str>
         ensures { option_map (λ n. n.now) result ≡ named names number };
 }

@@ -12,10 +12,13 @@ use serde_json::{Map, Value, put};
 use std::alloc::{AllocError, Global};
 use tink_proto::{Bytes, Repeated, Text};
 
-// The members of an object.
+/// The members of an object, by their names.
 pub type Members = Map<String, Value>;
 
-// One more member, a text.
+/// Adds a member: a text.
+///
+/// # Errors
+/// `AllocError` if there is no memory.
 pub fn put_text(
     members: &mut Members,
     alloc: Global,
@@ -33,7 +36,10 @@ pub fn put_text(
     )
 }
 
-// One more member, bytes in base 64.
+/// Adds a member: bytes in base 64 (RFC 4648, section 4).
+///
+/// # Errors
+/// `AllocError` if there is no memory.
 pub fn put_bytes(
     members: &mut Members,
     alloc: Global,
@@ -47,7 +53,10 @@ pub fn put_bytes(
     put(members, alloc, name, Value::String(text))
 }
 
-// One more member, an enum's name, or its number where it has none.
+/// Adds a member: the name of an enum's number, or the number if it has no name.
+///
+/// # Errors
+/// `AllocError` if there is no memory.
 pub fn put_enum<N: Named>(
     members: &mut Members,
     alloc: Global,
@@ -63,7 +72,10 @@ pub fn put_enum<N: Named>(
     }
 }
 
-// One more member, the values of messages.
+/// Adds a member: the list of the values of messages.
+///
+/// # Errors
+/// `AllocError` if there is no memory.
 pub fn put_list<M: Json>(
     members: &mut Members,
     alloc: Global,

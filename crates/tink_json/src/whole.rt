@@ -10,7 +10,10 @@ use crate::fields::digits_of_text;
 use json::{Reader, Scratch, Token};
 use std::alloc::{AllocError, Global};
 
-// Whether the text is UTF-8 and each number in it whole.
+/// Whether a text is UTF-8 and each number in it is whole.
+///
+/// # Errors
+/// `AllocError` if there is no memory.
 pub fn has_whole_numbers(alloc: Global, text: &[u8]) -> Result<bool, AllocError>
     ensures { IfOk result (λ b. b ≡ are_whole text.now) }
 {

@@ -38,10 +38,16 @@ pub trait KeyType {
         ensures value { result.now ≡ url };
 
     /// The primitive of a key.
+    ///
+    /// # Errors
+    /// What the meaning `built` gives for the key. `OutOfMemory`.
     fn build(alloc: Global, key: Self::Key) -> Result<Primitive<Self::Family>, TinkError>
         ensures answer { Answers result (built key) };
 
     /// A new key of a format.
+    ///
+    /// # Errors
+    /// What the meaning `made` gives for the format and the random bytes left. `OutOfMemory`.
     fn make(alloc: Global, format: Self::Format, draws: &mut Draws) -> Result<Self::Key, TinkError>
         ensures replies { Replies result (made format draws.old) draws.old draws.new };
 

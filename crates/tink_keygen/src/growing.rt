@@ -132,7 +132,7 @@ fn with_like_key(
     )
 }
 
-/// A keyset of one new key by the template of a name, with this output prefix type in place of the template's if there is one.
+/// A keyset of one new key by the template of a name. If an output prefix type is given, it replaces the template's.
 /// The key is enabled and the primary one. The random bytes are taken as `keygen` takes them.
 ///
 /// # Errors

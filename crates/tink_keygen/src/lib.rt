@@ -28,8 +28,8 @@ use tink_registry::Registry;
 /// first, at most 64 of them, then ids of four draws, at most 128, until one isn't 0.
 ///
 /// # Errors
-/// `UnknownTemplate` exactly where `tink::registry` has no template of the name; `NoFreshId` exactly where all 128 ids
-/// were 0; `RandomFault` where draws are too few, which 576 never are; `OutOfMemory` may come in place of each.
+/// `UnknownTemplate` exactly if `tink::registry` has no template of the name. `NoFreshId` exactly if all 128 ids were
+/// 0. `RandomFault` if draws are too few: 576 are enough. `OutOfMemory` may come in place of each.
 pub fn keygen(alloc: Global, template: &str, draws: &mut Draws) -> Result<Keyset, TinkError>
     ensures answer { Answers result (rotated_by template.now (Ok no_keys) draws.old) }
     ensures rest { LeavesDraws result (left_by template.now (Ok no_keys) draws.old) draws.old draws.new }
@@ -45,10 +45,10 @@ pub fn keygen(alloc: Global, template: &str, draws: &mut Draws) -> Result<Keyset
 /// id isn't 0 and no key has it.
 ///
 /// # Errors
-/// The first that applies: `UnknownTemplate` exactly where `tink::registry` has no template of the name; `BadKeyset`
-/// exactly where the bytes spell no keyset, and `InvalidKeyset` exactly where it isn't valid; `NoFreshId` exactly where
-/// all 128 ids were 0 or in use; `RandomFault` where draws are too few, which 576 never are. `OutOfMemory` may come in
-/// place of each.
+/// The first that applies: `UnknownTemplate` exactly if `tink::registry` has no template of the name. `BadKeyset`
+/// exactly if the bytes spell no keyset, and `InvalidKeyset` exactly if it is not valid. `NoFreshId` exactly if all
+/// 128 ids were 0 or in use. `RandomFault` if draws are too few: 576 are enough. `OutOfMemory` may come in place of
+/// each.
 pub fn rotate(
     alloc: Global,
     keyset: &[u8],

@@ -91,9 +91,9 @@ impl<S: Source> Reader for BinaryReader<S> {
     /// The keyset that the bytes left are. The source is at its end then.
     ///
     /// # Errors
-    /// `KeysetTooLong` exactly where more than 67,108,864 bytes are left, of which at most one more
-    /// than that many is read; `BadKeyset` exactly where fewer are no such message; `ReadFault`
-    /// where the source failed, and `OutOfMemory`.
+    /// `KeysetTooLong` exactly if more than 67,108,864 bytes are left: at most 67,108,865 are read.
+    /// `BadKeyset` exactly if fewer bytes are no keyset in the wire format. `ReadFault` if the source failed,
+    /// and `OutOfMemory`.
     fn read(&mut self, alloc: Global) -> Result<Keyset, TinkError>
         ensures answer { HasRead result (told BadKeyset (decoded keyset.read) (S.left self.old))
             (S.faults self.old) (S.faults self.new) }

@@ -93,9 +93,8 @@ impl<S: Source> Reader for JsonReader<S> {
     /// The keyset that the bytes left are. The source is at its end then.
     ///
     /// # Errors
-    /// `KeysetTooLong` exactly where more than 67,108,864 bytes are left, of which at most one more
-    /// than that many is read; `BadJson` exactly where fewer are no such value; `ReadFault`
-    /// where the source failed, and `OutOfMemory`.
+    /// `KeysetTooLong` exactly if more than 67,108,864 bytes are left: at most 67,108,865 are read. `BadJson`
+    /// exactly if fewer bytes are no keyset in JSON. `ReadFault` if the source failed, and `OutOfMemory`.
     fn read(&mut self, alloc: Global) -> Result<Keyset, TinkError>
         ensures answer { HasRead result (told BadJson (message_of keyset) (S.left self.old))
             (S.faults self.old) (S.faults self.new) }

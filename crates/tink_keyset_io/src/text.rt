@@ -73,7 +73,11 @@ pub fn read_whole<S: Source>(
     Err(TinkError::new(refusal))
 }
 
-// The message of the text that the source has left.
+/// The message of the text that the source has left, 67,108,864 bytes at most.
+///
+/// # Errors
+/// `KeysetTooLong` if the source has more bytes; the form's error if the text is no message. `ReadFault` if the source
+/// failed. `OutOfMemory`.
 pub fn read_as<F: TextForm<M>, M: Drop, S: Source>(
     alloc: Global,
     source: &mut S,
@@ -89,7 +93,10 @@ pub fn read_as<F: TextForm<M>, M: Drop, S: Source>(
     F::decode(alloc, &text)
 }
 
-// Writes a text of the message, all of it.
+/// Writes a text of the message, all of it.
+///
+/// # Errors
+/// `OutOfMemory`, with nothing written; `WriteFault` if the sink failed, with a prefix of a text written.
 pub fn write_as<F: TextForm<M>, M, K: Sink>(
     alloc: Global,
     sink: &mut K,

@@ -12,7 +12,7 @@ use std::alloc::Global;
 use tink_io::TinkError;
 use tink_proto::Bytes;
 
-// A form in which a message is kept as a text.
+/// A form in which a message is kept as a text.
 pub trait TextForm<M> {
     // The message that a text is.
     ghost message: { List ℕ → Option M };
@@ -23,12 +23,18 @@ pub trait TextForm<M> {
     // By which kind other texts are refused.
     ghost refusal: { Refusal };
 
-    // The message of a text. Its error is the refusal exactly where there is none, and `OutOfMemory`.
+    /// The message of a text.
+    ///
+    /// # Errors
+    /// The refusal of the form exactly if the text is no message, or `OutOfMemory`.
     fn decode(alloc: Global, text: &[u8]) -> Result<M, TinkError>
         ensures answer { (told : Option (Result M Refusal)) → IsAsTold told (or_refused refusal (message text.now))
             → (before now : ℕ) → HasRead result told before now };
 
-    // A text of the message. Its error is `OutOfMemory` alone.
+    /// A text of the message.
+    ///
+    /// # Errors
+    /// `OutOfMemory` alone.
     fn encode(alloc: Global, ks: &M) -> Result<Bytes, TinkError>
         ensures text { IfOk result (λ text. spells ks.now text) }
         ensures err { IfErr result (λ e. e ≡ record { kind = OutOfMemory }) };

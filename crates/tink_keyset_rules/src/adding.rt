@@ -58,7 +58,8 @@ fn data_of<M: KeyManager>(
     manager.new_key_data(alloc, kt.value.as_slice(), draws)
 }
 
-/// Draws an id for a new key, and puts the key at the end of a keyset that has room for it, as the primary one or not.
+/// Draws an id for a new key, and puts the key at the end of a keyset, as the primary one or not. The keyset has room
+/// for it.
 ///
 /// # Errors
 /// `RandomFault` and `NoFreshId`; then the keyset is as it was.

@@ -7,7 +7,10 @@ use std::alloc::Global;
 use tink_io::{Kind, TinkError};
 use tink_proto::Message;
 
-/// The same message again. Its error is `OutOfMemory` alone.
+/// An equal message.
+///
+/// # Errors
+/// `OutOfMemory` alone.
 pub fn copy<M: Message>(alloc: Global, message: &M) -> Result<M, TinkError>
     ensures same { IfOk result (λ m. m ≡ message.now) }
     ensures err { IfErr result (λ e. e ≡ record { kind = OutOfMemory }) }
@@ -18,7 +21,10 @@ pub fn copy<M: Message>(alloc: Global, message: &M) -> Result<M, TinkError>
     }
 }
 
-/// The same messages again. Its error is `OutOfMemory` alone.
+/// Equal messages, in the same order.
+///
+/// # Errors
+/// `OutOfMemory` alone.
 pub fn copy_all<M: Message>(alloc: Global, messages: &[M]) -> Result<Vec<M>, TinkError>
     ensures same { IfOk result (λ ms. ms.items ≡ messages.now) }
     ensures err { IfErr result (λ e. e ≡ record { kind = OutOfMemory }) }

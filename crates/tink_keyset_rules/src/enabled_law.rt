@@ -2,8 +2,7 @@
 
 ghost use Rattle.keyset_model.specs.Spared.{KeepsEnabled};
 
-/// An enabled key stays among the enabled ones as it was after any commands of which none disables, destroys or deletes
-/// a key of its id.
+/// If no command disables, destroys or deletes a key of its id, an enabled key stays among the enabled ones as it was.
 #[tactic(auto, using(keyset_model::proofs::EnabledLaw::keeps_enabled))]
 pub fn law_enabled_keys_stay()
     ensures { KeepsEnabled }

@@ -5,7 +5,7 @@ ghost use Rattle.tink_keyset_rules.specs.Managed.{data_by};
 
 use tink_registry::{KeyManager, Registry};
 
-/// The id that adding a key gives isn't 0, and no key had it.
+/// The id that adding a key gives is not 0, and no key has it before.
 #[tactic(auto, using(keyset_model::proofs::FreshIds::adds_fresh_ids))]
 pub fn law_fresh_id()
     ensures { AddsFreshIds }
@@ -29,8 +29,8 @@ pub fn law_refused_command()
     ensures { RefusedEditLeaves }
 {}
 
-/// After any commands, each key that none of them deleted by its id is there with its id and prefix type, with its
-/// status unless one of them gave it another, and with its data unless one of them destroyed it.
+/// If no command deletes a key by its id, the key is there after the commands, with its id and prefix type. Its
+/// status is the same unless one of them gave it another. Its data is the same unless one of them destroyed it.
 pub fn law_keys_stay()
     ensures { KeepsKeys }
 {}
@@ -46,8 +46,8 @@ pub fn law_primary_stays()
     ensures { KeepsPrimary }
 {}
 
-/// A valid keyset with distinct ids that are not 0 and an enabled primary key is valid after any commands, where the
-/// managers give data that a handle may hold, by templates of known prefix types alone.
+/// A valid keyset with distinct ids that are not 0 and an enabled primary key is valid after any commands. The
+/// premise: the managers give data that a handle may hold, by templates of known prefix types alone.
 #[tactic(auto, using(keyset_model::proofs::ValidLaw::keeps_valid))]
 pub fn law_valid_stays()
     ensures { KeepsValid }

@@ -1,5 +1,5 @@
-//! What calls on keysets are made of: which keysets are taken, a key that is added under a fresh id, what a
-//! master makes of their bytes, what may be shown of them, what reads and writes them, and what holds over commands.
+//! The parts of calls on keysets: validation, adding a key under a fresh id, encryption by a master, keyset
+//! info. Readers and writers, and laws over commands.
 #![tactic(auto)]
 
 mod adding;

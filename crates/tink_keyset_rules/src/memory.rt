@@ -9,10 +9,12 @@ use std::alloc::Global;
 use tink_io::{Kind, TinkError};
 use tink_proto::{EncryptedKeyset, Keyset};
 
-/// A keyset and an encrypted keyset, each of which may be absent. Reading copies, and writing replaces.
+/// A keyset and an encrypted keyset. Each may be absent. Reading copies, and writing replaces.
 #[derive(Default, Drop)]
 pub struct MemReaderWriter {
+    /// The keyset, if there is one.
     pub keyset: Option<Keyset>,
+    /// The encrypted keyset, if there is one.
     pub encrypted_keyset: Option<EncryptedKeyset>,
 }
 

@@ -55,7 +55,7 @@ fn key_info(alloc: Global, key: &Key) -> Result<KeyInfo, AllocError>
     })
 }
 
-/// A keyset, which prints what `keyset_info` tells of it, and so no key material. A URL that is not ASCII is not printed.
+/// A keyset that prints its keyset info, and so no key material. A URL that is not ASCII is not printed.
 #[derive(Drop)]
 pub struct Shown<'a>(pub &'a Keyset);
 

@@ -24,8 +24,9 @@ pub fn validate_key_version(version: u32, max_expected: u32) -> Result<(), TinkE
     Ok(())
 }
 
-/// Validates a keyset: there is a key, each is validated by `validate_key`, at most one enabled key has
-/// the primary id, some key is enabled, and one enabled key has the primary id or each of them is public.
+/// Validates a keyset by five rules. There is a key. Each is validated by `validate_key`. At most one enabled
+/// key has the primary id. Some key is enabled. One enabled key has the primary id, or each of them is
+/// public.
 ///
 /// # Errors
 /// `InvalidKeyset` exactly where this does not hold.
@@ -39,7 +40,7 @@ pub fn validate(keyset: &Keyset) -> Result<(), TinkError>
     Ok(())
 }
 
-/// Validates a key: it has data unless it is destroyed, its id isn't 0, its prefix type is from 1 to 4 and
+/// Validates a key. It has data unless it is destroyed. Its id is not 0, its prefix type is from 1 to 4 and
 /// its status from 1 to 3.
 ///
 /// # Errors

@@ -1,4 +1,4 @@
-//! What the wrapped primitives of all sorts share: the set of one sort that a handle gives, and how its entries are
+//! The parts that the wrapped primitives of all sorts share. A handle gives a set of one sort, and its entries are
 //! asked in order until one accepts.
 
 mod typing;

@@ -27,8 +27,8 @@ pub struct Measured {
 // The bytes that may be pending: more than a segment.
 const PENDING: usize = SEGMENT_SIZE as usize + 1;
 
-/// Tells how many bytes the large text of a number has, and of its stream how many bytes and
-/// segments, and the digest. The text has 1,000,000 + n bytes, of which byte i is (31 * i + n) mod
+/// Answers how many bytes the large text of a number has, and the bytes, the segments and the digest of its
+/// stream. The text has 1,000,000 + n bytes, and byte i of it is (31 * i + n) mod
 /// 251. Its stream is that under a fixed key without associated data whose salt and prefix are the
 /// first draws. The body seals the text, opens the stream as it comes, and holds neither as a whole.
 ///

@@ -9,9 +9,13 @@ use tink_io::{Failed, Sink, TinkError};
 /// A sink in memory whose bytes are read again. It takes as many as it was made for.
 #[derive(Drop)]
 pub struct Pending {
+    /// The bytes that it has taken.
     pub bytes: Vec<u8>,
+    /// The number of bytes that were read again.
     pub given: usize,
+    /// The bytes that it takes at most.
     pub room: usize,
+    /// How often it has failed.
     pub faults: u64,
     ghost given_in: { given ≤ vec_len bytes },
     ghost fits: { vec_len bytes ≤ room },
@@ -22,7 +26,7 @@ pub struct Pending {
 impl Pending {
     ghost use Rattle.tink_large.specs.Coming.{pending_bytes};
 
-    /// An empty one with room for so many bytes.
+    /// An empty one with room for this number of bytes.
     ///
     /// # Errors
     /// `OutOfMemory`.

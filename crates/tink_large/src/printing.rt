@@ -1,4 +1,4 @@
-//! What is told of a large text, in lines.
+//! The facts of a large text, in lines.
 
 ghost use Rattle.std.specs.Prelude.{◌≡◌, IfOk, IfErr};
 ghost use Rattle.tink_io.specs.declared.error.Kind.TheVariants.{OutOfMemory};
@@ -9,7 +9,7 @@ use std::alloc::Global;
 use tink_io::TinkError;
 
 /// Four lines: `text` and the bytes of the text, `stream` and those of the stream, `segments` and their
-/// number, `sha256` and the digest of the stream in lower-case hexadecimal digits.
+/// number. `sha256` and the digest of the stream in lower-case hexadecimal digits.
 ///
 /// # Errors
 /// `OutOfMemory` alone.

@@ -140,7 +140,8 @@ impl SealedText {
         self.at += count;
     }
 
-    /// What was read, besides the text and the segments that were opened.
+    /// The size and the digest of the stream that was read, with these numbers of bytes of text and of
+    /// segments.
     pub fn measured(self, text: u64, segments: u64) -> Measured
         ensures text { result.text ≡ text }
         ensures stream { result.stream ≡ self.count }

@@ -6,7 +6,7 @@ ghost use Rattle.tink_large.specs.Large.{byte_at, text_from, text_length};
 /// The bytes of the text of the number 0.
 const SHORTEST: u64 = 1000000;
 
-// How many bytes the text of a number has.
+/// The bytes of the large text of a number: the number and 1,000,000.
 pub fn text_length(n: u32) -> u64
     ensures { result ≡ text_length n }
 {
@@ -21,7 +21,7 @@ fn byte_at(n: u32, place: u64) -> u8
     ((31 * place + u64::from(n)) % 251) as u8
 }
 
-// Makes `piece` the `count` bytes of the text from a place on.
+/// Makes `piece` the `count` bytes of the large text from place `at` on.
 #[tactic(auto, using(crate::proofs::TextFacts::text_from_none, crate::proofs::TextFacts::text_from_more))]
 pub fn fill_piece(n: u32, at: u64, count: usize, piece: &mut Vec<u8>)
     requires place { at + count < 2 ^ 40 }

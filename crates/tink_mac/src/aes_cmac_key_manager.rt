@@ -24,8 +24,8 @@ pub const CMAC_KEY_VERSION: u32 = 0;
 /// The URL of AES-CMAC keys.
 pub const CMAC_TYPE_URL: &str = "type.googleapis.com/google.crypto.tink.AesCmacKey";
 
-/// The type of AES-CMAC keys. A key builds exactly where its version is 0, and it has 32 bytes and params with tags of
-/// 10 to 16 bytes. A format makes a key exactly where the same holds of its params and key size.
+/// The type of AES-CMAC keys (SP 800-38B). A key builds exactly where its version is 0, and it has 32 bytes and params
+/// with tags of 10 to 16 bytes. A format makes a key exactly where the same holds of its params and key size.
 pub struct AesCmacKeys;
 
 /// The manager of AES-CMAC keys.

@@ -81,8 +81,8 @@ impl<P: Mac> Mac for WrappedMac<P> {
         }
     }
 
-    /// Ok where an entry accepts `mac` for `data`: those of its first five bytes are asked on the rest, then those
-    /// without a prefix on the whole. A LEGACY key is asked on the data and one zero byte.
+    /// Ok if an entry accepts `mac` for `data`. The entries of its first five bytes try the rest, and then those
+    /// without a prefix the whole. A LEGACY key is asked on the data and one zero byte.
     ///
     /// # Errors
     /// `MacMismatch` exactly where `mac` has five bytes or fewer, or no entry accepts; `OutOfMemory`.

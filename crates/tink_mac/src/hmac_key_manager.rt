@@ -25,8 +25,8 @@ pub const HMAC_KEY_VERSION: u32 = 0;
 /// The URL of HMAC keys.
 pub const HMAC_TYPE_URL: &str = "type.googleapis.com/google.crypto.tink.HmacKey";
 
-/// The type of HMAC keys. A key builds exactly where its version is 0 and it has params of which, with its bytes, there
-/// is an `Hmac`. A format makes a key exactly where the same holds of its params and key size.
+/// The type of HMAC keys (FIPS 198-1). A key builds exactly if its version is 0, and its params and its bytes build
+/// an `Hmac`. A format makes a key exactly where the same holds of its params and key size.
 pub struct HmacKeys;
 
 /// The manager of HMAC keys.
@@ -53,7 +53,7 @@ pub fn hmac_by_params(
     }
 }
 
-/// Whether there are params, of which `validate_hmac_params` refuses none with keys of this size in bytes.
+/// Whether there are params, and `validate_hmac_params` accepts them with keys of this size in bytes.
 pub fn are_hmac_params(params: &Option<HmacParams>, key_size: u32) -> bool
     ensures { result ≡ are_hmac_params params.now key_size }
 {

@@ -7,8 +7,8 @@ use crate::{AesCmacKeyManager, HmacKeyManager};
 use tink_primitives::{Kinds, Mac};
 use tink_registry::KeyManager;
 
-/// What an enabled key's entry made is accepted under every keyset in which the key is still enabled: by the same key
-/// managers, where the key's primitive accepts its own tag, and the MAC has more than five bytes.
+/// Every keyset in which a key is still enabled accepts what the key's entry computed. The premises: the same key
+/// managers build both, the key's primitive accepts its own tag, and the MAC has more than five bytes.
 pub fn law_old_macs_verify<M: KeyManager, P: Mac>()
 where
     M::Family: Kinds<Mac = P>,
@@ -27,9 +27,9 @@ pub fn law_built_macs_are_sound()
     ensures cmac { BuildsSound ⟦<AesCmacKeyManager as KeyManager>⟧.builds kind_computes kind_verifies }
 {}
 
-/// What a keyset's MACs computed is accepted by those of the keyset that any list of a manager's commands makes of it,
-/// where none of them disables, destroys or deletes a key of the id that was primary: by the same key managers, whose
-/// MACs accept each tag that they compute, of more than five bytes.
+/// A keyset's MACs compute a tag, and then a manager's commands edit the keyset. If no command disables, destroys or
+/// deletes a key of the id that was primary, the edited keyset accepts the tag. The premises: the same key managers
+/// build both, and their MACs accept each tag that they compute, of more than five bytes.
 pub fn law_macs_outlive_commands<M: KeyManager, P: Mac>()
 where
     M::Family: Kinds<Mac = P>,

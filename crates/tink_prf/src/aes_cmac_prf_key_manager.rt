@@ -22,7 +22,7 @@ pub const AES_CMAC_PRF_KEY_VERSION: u32 = 0;
 /// The URL of AES-CMAC keys for a pseudorandom function.
 pub const AES_CMAC_PRF_TYPE_URL: &str = "type.googleapis.com/google.crypto.tink.AesCmacPrfKey";
 
-/// AES-CMAC keys for a pseudorandom function, of 32 bytes.
+/// AES-CMAC keys (SP 800-38B) for a pseudorandom function, of 32 bytes.
 pub struct AesCmacPrfKeys;
 
 /// Makes and builds AES-CMAC keys for a pseudorandom function.

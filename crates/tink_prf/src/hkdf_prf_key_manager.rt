@@ -23,7 +23,8 @@ pub const HKDF_PRF_KEY_VERSION: u32 = 0;
 /// The URL of HKDF keys for a pseudorandom function.
 pub const HKDF_PRF_TYPE_URL: &str = "type.googleapis.com/google.crypto.tink.HkdfPrfKey";
 
-/// HKDF keys for a pseudorandom function, with params that name SHA-256 or SHA-512, of at least 32 bytes.
+/// HKDF keys (RFC 5869) for a pseudorandom function, with params that name SHA-256 or SHA-512, of at least 32
+/// bytes.
 pub struct HkdfPrfKeys;
 
 /// Makes and builds HKDF keys for a pseudorandom function.

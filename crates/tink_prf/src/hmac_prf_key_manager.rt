@@ -23,7 +23,8 @@ pub const HMAC_PRF_KEY_VERSION: u32 = 0;
 /// The URL of HMAC keys for a pseudorandom function.
 pub const HMAC_PRF_TYPE_URL: &str = "type.googleapis.com/google.crypto.tink.HmacPrfKey";
 
-/// HMAC keys for a pseudorandom function, with params that name a known hash, of at least 16 bytes.
+/// HMAC keys (FIPS 198-1) for a pseudorandom function, with params that name a known hash, of at least 16
+/// bytes.
 pub struct HmacPrfKeys;
 
 /// Makes and builds HMAC keys for a pseudorandom function.

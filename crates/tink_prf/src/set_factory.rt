@@ -34,10 +34,14 @@ impl<P: Prf + Drop> Set<P> {
     /// have one id, it has the function of the last.
     ///
     /// # Errors
-    /// The first that applies: what building refuses by (`Handle::primitives`); `NoPrimary` where no enabled key has
-    /// the primary id; `WrongPrimitive` where the primary is of another sort; `NotRawOnly` unless every enabled key is
-    /// of the prefix type RAW; `WrongPrimitive` where another enabled key is of another sort. `OutOfMemory` may come in
-    /// place of each.
+    /// The first that applies:
+    /// - those of `Handle::primitives`;
+    /// - `NoPrimary` if no enabled key has the primary id;
+    /// - `WrongPrimitive` if the primary key is of another sort;
+    /// - `NotRawOnly` unless every enabled key is of the prefix type RAW;
+    /// - `WrongPrimitive` if another enabled key is of another sort.
+    ///
+    /// `OutOfMemory` may come in place of each.
     pub fn new<M: KeyManager>(
         alloc: Global,
         h: &Handle,

@@ -16,8 +16,8 @@ use tink_proto::{Bytes, HashType};
 // Larger than the least size of other keys: a pseudorandom function may have many users.
 const MIN_HKDF_KEY_SIZE_IN_BYTES: usize = 32;
 
-/// HKDF with a hash, from a key and under a salt, which contracts see as these three. An output is HKDF's with the
-/// input as its info, at most 255 digests.
+/// HKDF (RFC 5869) with a hash, from a key and under a salt. A contract sees these three. An output is HKDF's with
+/// the input as its info, at most 255 digests.
 #[derive(Drop)]
 pub struct HkdfPrf {
     hash: Hash,
@@ -60,8 +60,8 @@ impl HkdfPrf {
 /// Whether Tink makes HKDF keys of this hash and this size in bytes, under any salt.
 ///
 /// # Errors
-/// `BadKeySize` exactly where the size is under 32; then `UnknownHash` exactly for the unknown hash; then
-/// `UnsupportedHash` exactly where the hash is neither SHA-256 nor SHA-512.
+/// `BadKeySize` exactly if the size is under 32. Then `UnknownHash` exactly for the unknown hash. Then
+/// `UnsupportedHash` exactly if the hash is neither SHA-256 nor SHA-512.
 pub fn validate_hkdf_prf_params(
     hash: HashType,
     key_size: usize,

@@ -15,8 +15,8 @@ use tink_proto::{Bytes, HashType};
 
 const MIN_HMAC_KEY_SIZE_IN_BYTES: usize = 16;
 
-/// HMAC with a hash under a key, which contracts see as these two. An output is the first bytes of the HMAC of the
-/// input, at most a digest.
+/// HMAC (FIPS 198-1) with a hash under a key. A contract sees these two. An output is the first bytes of the HMAC
+/// of the input, at most a digest.
 #[derive(Drop)]
 pub struct HmacPrf {
     hash: Hash,

@@ -8,7 +8,10 @@ use tink_io::TinkError;
 
 /// A value that is copied where there is memory for the copy.
 pub trait CloneIn: Drop {
-    /// An equal value, or `OutOfMemory`.
+    /// An equal value.
+    ///
+    /// # Errors
+    /// `OutOfMemory` alone.
     fn try_clone(&self, alloc: Global) -> Result<Self, TinkError>
         ensures value { IfOk result (λ copy. copy ≡ self.now) }
         ensures cause { IfErr result (λ e. e.kind ≡ OutOfMemory) };

@@ -32,7 +32,10 @@ impl<K: Kinds> Primitive<K> {
         TinkError::new(Kind::WrongPrimitive)
     }
 
-    /// The AEAD, or `WrongPrimitive` where it is of another sort.
+    /// The AEAD.
+    ///
+    /// # Errors
+    /// `WrongPrimitive` exactly if it is of another sort.
     pub fn into_aead(self) -> Result<K::Aead, TinkError>
         ensures value { Tells result (as_aead self) }
     {
@@ -42,7 +45,10 @@ impl<K: Kinds> Primitive<K> {
         }
     }
 
-    /// The deterministic AEAD, or `WrongPrimitive` where it is of another sort.
+    /// The deterministic AEAD.
+    ///
+    /// # Errors
+    /// `WrongPrimitive` exactly if it is of another sort.
     pub fn into_deterministic_aead(self) -> Result<K::DeterministicAead, TinkError>
         ensures value { Tells result (as_deterministic_aead self) }
     {
@@ -52,7 +58,10 @@ impl<K: Kinds> Primitive<K> {
         }
     }
 
-    /// The hybrid decryption, or `WrongPrimitive` where it is of another sort.
+    /// The hybrid decryption.
+    ///
+    /// # Errors
+    /// `WrongPrimitive` exactly if it is of another sort.
     pub fn into_hybrid_decrypt(self) -> Result<K::HybridDecrypt, TinkError>
         ensures value { Tells result (as_hybrid_decrypt self) }
     {
@@ -62,7 +71,10 @@ impl<K: Kinds> Primitive<K> {
         }
     }
 
-    /// The hybrid encryption, or `WrongPrimitive` where it is of another sort.
+    /// The hybrid encryption.
+    ///
+    /// # Errors
+    /// `WrongPrimitive` exactly if it is of another sort.
     pub fn into_hybrid_encrypt(self) -> Result<K::HybridEncrypt, TinkError>
         ensures value { Tells result (as_hybrid_encrypt self) }
     {
@@ -72,7 +84,10 @@ impl<K: Kinds> Primitive<K> {
         }
     }
 
-    /// The MAC, or `WrongPrimitive` where it is of another sort.
+    /// The MAC.
+    ///
+    /// # Errors
+    /// `WrongPrimitive` exactly if it is of another sort.
     pub fn into_mac(self) -> Result<K::Mac, TinkError>
         ensures value { Tells result (as_mac self) }
     {
@@ -82,7 +97,10 @@ impl<K: Kinds> Primitive<K> {
         }
     }
 
-    /// The pseudorandom function, or `WrongPrimitive` where it is of another sort.
+    /// The pseudorandom function.
+    ///
+    /// # Errors
+    /// `WrongPrimitive` exactly if it is of another sort.
     pub fn into_prf(self) -> Result<K::Prf, TinkError>
         ensures value { Tells result (as_prf self) }
     {
@@ -92,7 +110,10 @@ impl<K: Kinds> Primitive<K> {
         }
     }
 
-    /// The signer, or `WrongPrimitive` where it is of another sort.
+    /// The signer.
+    ///
+    /// # Errors
+    /// `WrongPrimitive` exactly if it is of another sort.
     pub fn into_signer(self) -> Result<K::Signer, TinkError>
         ensures value { Tells result (as_signer self) }
     {
@@ -102,7 +123,10 @@ impl<K: Kinds> Primitive<K> {
         }
     }
 
-    /// The streaming AEAD, or `WrongPrimitive` where it is of another sort.
+    /// The streaming AEAD.
+    ///
+    /// # Errors
+    /// `WrongPrimitive` exactly if it is of another sort.
     pub fn into_streaming_aead(self) -> Result<K::StreamingAead, TinkError>
         ensures value { Tells result (as_streaming_aead self) }
     {
@@ -112,7 +136,10 @@ impl<K: Kinds> Primitive<K> {
         }
     }
 
-    /// The verifier, or `WrongPrimitive` where it is of another sort.
+    /// The verifier.
+    ///
+    /// # Errors
+    /// `WrongPrimitive` exactly if it is of another sort.
     pub fn into_verifier(self) -> Result<K::Verifier, TinkError>
         ensures value { Tells result (as_verifier self) }
     {

@@ -1,5 +1,5 @@
-//! The primitives, each by its meaning: for the arguments of a call the one answer, a value or a kind, and for a call
-//! that draws the draws that are then left. `OutOfMemory` alone is no part of a meaning.
+//! The primitives, each by its meaning. For the arguments of a call it is the one answer, a value or a kind. For a call
+//! that draws it is the draws then left too. `OutOfMemory` alone is no part of a meaning.
 
 ghost use Rattle.std.specs.Prelude.{List, ℕ, Result};
 ghost use Rattle.tink_io.specs.declared.error.Kind.{Kind};
@@ -19,6 +19,9 @@ pub trait Aead {
     ghost decrypts: { Self → List ℕ → List ℕ → Result (List ℕ) Kind };
 
     /// The ciphertext of `plaintext`, bound to `additional_data`.
+    ///
+    /// # Errors
+    /// Those of the meaning `encrypts`, by the type. `OutOfMemory`.
     fn encrypt(
         &self,
         alloc: Global,
@@ -30,6 +33,9 @@ pub trait Aead {
             (encrypts self.now plaintext.now additional_data.now draws.old) draws.old draws.new };
 
     /// The text of `ciphertext`, which is bound to `additional_data`.
+    ///
+    /// # Errors
+    /// Those of the meaning `decrypts`, by the type. `OutOfMemory`.
     fn decrypt(
         &self,
         alloc: Global,
@@ -55,6 +61,9 @@ pub trait DeterministicAead {
     ghost decrypts: { Self → List ℕ → List ℕ → Result (List ℕ) Kind };
 
     /// The ciphertext of `plaintext`, bound to `additional_data`.
+    ///
+    /// # Errors
+    /// Those of the meaning `encrypts`, by the type. `OutOfMemory`.
     fn encrypt_deterministically(
         &self,
         alloc: Global,
@@ -64,6 +73,9 @@ pub trait DeterministicAead {
         ensures answer { Answers result (encrypts self.now plaintext.now additional_data.now) };
 
     /// The text of `ciphertext`, which is bound to `additional_data`.
+    ///
+    /// # Errors
+    /// Those of the meaning `decrypts`, by the type. `OutOfMemory`.
     fn decrypt_deterministically(
         &self,
         alloc: Global,
@@ -86,6 +98,9 @@ pub trait HybridEncrypt {
     ghost encrypts: { Self → List ℕ → List ℕ → List ℕ → Result (List ℕ) Kind × List ℕ };
 
     /// The ciphertext of `plaintext`, bound to `context_info`.
+    ///
+    /// # Errors
+    /// Those of the meaning `encrypts`, by the type. `OutOfMemory`.
     fn encrypt(
         &self,
         alloc: Global,
@@ -107,6 +122,9 @@ pub trait HybridDecrypt {
     ghost decrypts: { Self → List ℕ → List ℕ → Result (List ℕ) Kind };
 
     /// The text of `ciphertext`, which is bound to `context_info`.
+    ///
+    /// # Errors
+    /// Those of the meaning `decrypts`, by the type. `OutOfMemory`.
     fn decrypt(
         &self,
         alloc: Global,
@@ -129,10 +147,16 @@ pub trait Mac {
     ghost verifies: { Self → List ℕ → List ℕ → Result (Unit {0}) Kind };
 
     /// The MAC of `message`.
+    ///
+    /// # Errors
+    /// Those of the meaning `computes`, by the type. `OutOfMemory`.
     fn compute_mac(&self, alloc: Global, message: &[u8]) -> Result<Bytes, TinkError>
         ensures answer { Answers result (computes self.now message.now) };
 
-    /// Ok where `mac` is accepted for `message`, and else `MacMismatch`.
+    /// Ok if `mac` is accepted for `message`.
+    ///
+    /// # Errors
+    /// `MacMismatch` if it is not, as the meaning `verifies` says. `OutOfMemory`.
     fn verify_mac(&self, alloc: Global, mac: &[u8], message: &[u8]) -> Result<(), TinkError>
         ensures answer { Answers result (verifies self.now mac.now message.now) };
 
@@ -148,7 +172,10 @@ pub trait Prf {
     // The output for an input and a length.
     ghost computes: { Self → List ℕ → ℕ → Result (List ℕ) Kind };
 
-    /// The first `output_length` bytes for `input`.
+    /// The first `output_length` bytes of the PRF's output for `input`.
+    ///
+    /// # Errors
+    /// Those of the meaning `computes`, by the type. `OutOfMemory`.
     fn compute_prf(
         &self,
         alloc: Global,
@@ -167,6 +194,9 @@ pub trait Signer {
     ghost signs: { Self → List ℕ → List ℕ → Result (List ℕ) Kind × List ℕ };
 
     /// The signature of `message`.
+    ///
+    /// # Errors
+    /// Those of the meaning `signs`, by the type. `OutOfMemory`.
     fn sign(&self, alloc: Global, message: &[u8], draws: &mut Draws) -> Result<Bytes, TinkError>
         ensures replies { Replies result (signs self.now message.now draws.old) draws.old draws.new };
 
@@ -179,7 +209,10 @@ pub trait Verifier {
     // Whether a signature is accepted for a message.
     ghost verifies: { Self → List ℕ → List ℕ → Result (Unit {0}) Kind };
 
-    /// Ok where `signature` is accepted for `message`.
+    /// Ok if `signature` is accepted for `message`.
+    ///
+    /// # Errors
+    /// Those of the meaning `verifies`, by the type. `OutOfMemory`.
     fn verify(&self, alloc: Global, signature: &[u8], message: &[u8]) -> Result<(), TinkError>
         ensures answer { Answers result (verifies self.now signature.now message.now) };
 

@@ -17,16 +17,19 @@ pub use tink_program_core::{Outcome, status, tell};
 ///   `sign KEYSET` and `verify KEYSET`; the usage line is written.
 /// - 10 to 28: it was refused; the line of the refusal's kind is written.
 ///
-/// KEYSET and AAD are hexadecimal, in either case and at least two digits, or `-` for no bytes; TEMPLATE is any word;
-/// SEED is 64 hexadecimal digits, and draws are the first 256 words of its ChaCha20 stream; N is a decimal number below
-/// 1,000,000, and START and LEN are such numbers below 2^64, without a leading zero unless it is 0. `keygen` writes the
-/// line of a keyset of one new key by the template of that name, `rotate` that of KEYSET with such a key as its primary
-/// one, `large` the four lines of the large text of N under the draws of the seed of zeros; they leave the source as it
-/// is. `range` writes the bytes of the text from place START on and below START + LEN, of the stream that the source
-/// has in at most 16,777,216 bytes, once the last chunk and those that the range touches were opened. `rewrap` moves
-/// the stream that the source has from the first keyset to the second. `sign` writes the token of the source's bytes,
-/// at most 16,777,216 of them, and `verify` the payload of the token that the source has. A fault of `faults` ends the
-/// line where it stands, and changes no status.
+/// - KEYSET and AAD are hexadecimal, in either case and at least two digits, or `-` for no bytes.
+/// - TEMPLATE is any word.
+/// - SEED is 64 hexadecimal digits, and draws are the first 256 words of its ChaCha20 stream.
+/// - N is a decimal number below 1,000,000.
+/// - START and LEN are decimal numbers below 2^64, without a leading zero unless it is 0.
+///
+/// `keygen` writes the line of a keyset of one new key by the template of that name. `rotate` writes the line of
+/// KEYSET with a new key as its primary one. `large` writes the four lines of the large text of N under the draws of
+/// the seed of zeros. These three leave the source as it is. `range` writes the bytes of the text from place START on
+/// and below START + LEN. The stream is the source's, of at most 16,777,216 bytes, and its last chunk and those that
+/// the range touches were opened before. `rewrap` moves the stream that the source has from the first keyset to the
+/// second. `sign` writes the token of the source's bytes, at most 16,777,216 of them, and `verify` the payload of the
+/// token that the source has. If `faults` fails, a prefix of the line is written, and the status is the same.
 pub fn program<S: Source, K: Sink, E: Sink>(
     alloc: Global,
     words: &Vec<String>,

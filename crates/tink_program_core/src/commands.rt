@@ -15,7 +15,10 @@ use std::alloc::Global;
 use tink_io::{Sink, Source};
 use tink_tokens::{write_payload, write_token};
 
-/// Does what was read of the words, with the draws of `seed`.
+/// Runs a parsed command, with the random bytes of `seed`.
+///
+/// # Errors
+/// The outcome is the kind of the command's error; `CommandMeans` lists those of each command.
 pub fn done<S: Source, K: Sink>(
     alloc: Global,
     parsed: Parsed,

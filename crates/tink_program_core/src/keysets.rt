@@ -9,7 +9,11 @@ use std::alloc::Global;
 use tink_io::{Draws, Sink, TinkError, write_all};
 use tink_keygen::{key_line, keygen, rotate};
 
-/// Writes the line of a keyset of one new key, with the draws of the seed.
+/// Writes the line of a keyset of one new key, with the random bytes of the seed.
+///
+/// # Errors
+/// `WriteFault` if the sink failed, with a prefix of the line written. Each other error leaves the sink as it is:
+/// `UnknownTemplate` if no template has the name; `NoFreshId` if no fresh id was drawn; `OutOfMemory`.
 pub fn write_new<K: Sink>(
     alloc: Global,
     template: &str,
@@ -25,7 +29,12 @@ pub fn write_new<K: Sink>(
     write_all(sink, &line)
 }
 
-/// Writes the line of a keyset with a new key as its primary one, with the draws of the seed.
+/// Writes the line of a keyset with a new key as its primary key, with the random bytes of the seed.
+///
+/// # Errors
+/// `WriteFault` if the sink failed, with a prefix of the line written. Each other error leaves the sink as it is:
+/// `BadKeyset` or `InvalidKeyset` if the keyset given is not valid; `UnknownTemplate` if no template has the name;
+/// `NoFreshId` if no fresh id was drawn; `OutOfMemory`.
 pub fn write_rotated<K: Sink>(
     alloc: Global,
     args: &RotateArgs,

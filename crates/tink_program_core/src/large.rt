@@ -13,7 +13,10 @@ use tink_large::{lines, measure};
 // The seed of every large text.
 const SEED: [u8; 32] = [0; 32];
 
-/// Writes the lines of the large text of a number, with the draws of the seed of zeros.
+/// Writes the four lines of the large text of a number, with the random bytes of the seed of zeros.
+///
+/// # Errors
+/// `OutOfMemory`, with nothing written; `WriteFault` if the sink failed, with a prefix of the lines written.
 pub fn write_large<K: Sink>(alloc: Global, n: u32, sink: &mut K) -> Result<(), TinkError>
     ensures answer { WritesLarge n (K.got sink.old) (K.got sink.new) (K.faults sink.old) (K.faults sink.new) result }
     ensures early { IfErr result (λ e. IsUnwritten e.kind → sink.new ≡ sink.old) }

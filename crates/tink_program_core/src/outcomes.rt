@@ -48,7 +48,10 @@ pub fn tell<E: Sink>(faults: &mut E, outcome: Outcome)
     }
 }
 
-/// The outcome that an answer comes to.
+/// The outcome of an answer.
+///
+/// # Errors
+/// The kind of the answer's error.
 pub fn outcome_of<T: Copy>(answer: Result<T, TinkError>) -> Outcome
     ensures { result ≡ answer_outcome answer }
 {

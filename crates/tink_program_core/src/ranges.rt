@@ -24,9 +24,13 @@ use tink_tokens::read_input;
 /// Writes a range of the text of the stream that the source has, which is held whole, and answers how many bytes.
 ///
 /// # Errors
-/// The first that applies: why the keyset does not load, with nothing read; `ReadFault`; `InputTooLong` exactly where
-/// the source has more than 16,777,216 bytes; those of `range_of_set`. `OutOfMemory` may come in place of each. Each
-/// but `WriteFault` and `BadSegment` leaves the sink as it is.
+/// The first that applies:
+/// - those of loading the keyset, with nothing read;
+/// - `ReadFault`;
+/// - `InputTooLong` exactly if the source has more than 16,777,216 bytes;
+/// - those of `range_of_set`.
+///
+/// `OutOfMemory` may come in place of each. Each but `WriteFault` and `BadSegment` leaves the sink as it is.
 pub fn write_range<S: Source, K: Sink>(
     alloc: Global,
     args: &RangeArgs,

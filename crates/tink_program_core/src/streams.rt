@@ -14,7 +14,10 @@ use tink_rewrap::rewrap::rewrap;
 use tink_run::report::{Command, Report};
 use tink_run::run::run;
 
-/// Seals with the draws of the seed.
+/// Encrypts a stream with the random bytes of the seed.
+///
+/// # Errors
+/// As `run` lists them for encryption.
 pub fn run_seal<S: Source, K: Sink>(
     alloc: Global,
     args: &SealArgs,
@@ -42,7 +45,10 @@ pub fn run_seal<S: Source, K: Sink>(
     )
 }
 
-/// Opens with no draws.
+/// Decrypts a stream, without random bytes.
+///
+/// # Errors
+/// As `run` lists them for decryption.
 pub fn run_open<S: Source, K: Sink>(
     alloc: Global,
     args: &OpenArgs,
@@ -70,7 +76,10 @@ pub fn run_open<S: Source, K: Sink>(
     )
 }
 
-/// Moves a stream with the draws of the seed.
+/// Rewraps a stream with the random bytes of the seed.
+///
+/// # Errors
+/// As `rewrap` lists them.
 pub fn run_rewrap<S: Source, K: Sink>(
     alloc: Global,
     args: &RewrapArgs,

@@ -26,39 +26,53 @@ const NO_SEED: Seed = [0; 32];
 /// What `seal KEYSET AAD SEED` spells beside its seed.
 #[derive(Drop)]
 pub struct SealArgs {
+    /// The bytes of the keyset.
     pub keyset: Vec<u8>,
+    /// The associated data.
     pub aad: Vec<u8>,
 }
 
 /// What `open KEYSET AAD` spells.
 #[derive(Drop)]
 pub struct OpenArgs {
+    /// The bytes of the keyset.
     pub keyset: Vec<u8>,
+    /// The associated data.
     pub aad: Vec<u8>,
 }
 
 /// What `rotate KEYSET TEMPLATE SEED` spells beside its seed.
 #[derive(Drop)]
 pub struct RotateArgs {
+    /// The bytes of the keyset.
     pub keyset: Vec<u8>,
+    /// The name of the template.
     pub template: String,
 }
 
 /// What `range KEYSET AAD START LEN` spells.
 #[derive(Drop)]
 pub struct RangeArgs {
+    /// The bytes of the keyset.
     pub keyset: Vec<u8>,
+    /// The associated data.
     pub aad: Vec<u8>,
+    /// The first byte of the range, from 0 on.
     pub start: u64,
+    /// The bytes of the range at most.
     pub len: u64,
 }
 
 /// What `rewrap KEYSET AAD KEYSET AAD SEED` spells beside its seed.
 #[derive(Drop)]
 pub struct RewrapArgs {
+    /// The bytes of the keyset that decrypts.
     pub from: Vec<u8>,
+    /// The associated data of the stream that is read.
     pub from_aad: Vec<u8>,
+    /// The bytes of the keyset that encrypts.
     pub to: Vec<u8>,
+    /// The associated data of the new stream.
     pub to_aad: Vec<u8>,
 }
 
@@ -85,8 +99,11 @@ enum Unread {
     NoMemory,
 }
 
-/// Reads the words of a command, and its seed, which is one of zeros where they have none; `None` where they spell no
-/// command. Refuses by `OutOfMemory` alone.
+/// Reads the words of a command and its seed, which is one of zeros if they have none. `None` if they spell no
+/// command.
+///
+/// # Errors
+/// `OutOfMemory` alone.
 pub fn parse(alloc: Global, words: &Vec<String>) -> Result<Option<(Parsed, Seed)>, TinkError>
     ensures found { IfOk result (λ o. IfSome o (λ p. Spells (words_of words.now) (asked_of p.0 p.1))) }
     ensures none { IfOk result (λ o. IfNone o (SpellNothing (words_of words.now))) }
@@ -280,7 +297,7 @@ fn read_rewrap(alloc: Global, words: &[String]) -> Result<(Parsed, Seed), Unread
     }
 }
 
-/// The number that a word writes as it is printed, in decimal digits with no zero before them, of at most so many.
+/// The number that a word writes as it is printed: at most this many decimal digits, with no zero before them.
 ///
 /// # Errors
 /// `OutOfMemory`.
@@ -339,7 +356,9 @@ fn bytes_of(alloc: Global, word: &str) -> Result<Vec<u8>, Unread>
     }
 }
 
-/// The bytes of the first 256 words of the seed's ChaCha20 stream, 1,024 in all. Refuses by
+/// The bytes of the first 256 words of the seed's ChaCha20 stream, 1,024 in all.
+///
+/// # Errors
 /// `OutOfMemory` alone.
 pub fn first_draws(alloc: Global, seed: Seed) -> Result<Vec<u8>, TinkError>
     ensures draws { IfOk result (λ v. v.items ≡ draws_in seed 256) }

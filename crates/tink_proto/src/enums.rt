@@ -48,7 +48,7 @@ impl TryFrom<i32> for KeyStatusType {
     }
 }
 
-/// What stands before what a key makes.
+/// The output prefix of a key.
 #[derive(Clone, Copy, Debug, PartialEq, Eq)]
 pub enum OutputPrefixType {
     UnknownPrefix = 0,

@@ -1,4 +1,4 @@
-//! Why a message could not be had.
+//! Why a message was not read, or not copied.
 
 ghost use Rattle.std.specs.Prelude.{◌≡◌};
 ghost use Rattle.tink_proto.specs.declared.error.ProtoError.TheVariants.{OutOfMemory};
@@ -7,12 +7,14 @@ use std::alloc::{AllocError, AllocFailed};
 use std::error::Error;
 use std::fmt;
 
+/// Why a message was not read, or not copied.
 #[derive(Clone, Copy, Debug, PartialEq, Eq)]
 pub enum ProtoError {
     /// The bytes are not the message in the wire format.
     BadMessage,
     /// The text is not the message in JSON.
     BadJson,
+    /// There is no memory for the message.
     OutOfMemory,
 }
 

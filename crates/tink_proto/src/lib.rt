@@ -1,8 +1,8 @@
 //! The messages of keysets and the wire format that they are read from and written in.
 //!
 //! `Keyset::decode(alloc, bytes)` reads a message, `encode` writes it, and `try_clone` makes it again: the trait
-//! [`Message`] has them. A contract sees a message by value, its bytes and texts as lists of bytes, a repeated field as
-//! a list and an enum as a signed number.
+//! [`Message`] has them. A contract sees a message by value. It sees bytes and texts as lists of bytes, a repeated
+//! field as a list and an enum as a signed number.
 #![tactic(auto)]
 
 mod enums;

@@ -20,6 +20,7 @@ impl Model for Bytes {
 }
 
 impl Bytes {
+    /// No bytes.
     pub fn new(alloc: Global) -> Bytes
         ensures { result ≡ [] }
     {
@@ -35,6 +36,10 @@ impl Bytes {
         Bytes { items }
     }
 
+    /// A copy of the bytes.
+    ///
+    /// # Errors
+    /// `AllocError` if there is no memory.
     pub fn from_slice(alloc: Global, bytes: &[u8]) -> Result<Bytes, AllocError>
         ensures { IfOk result (λ b. b ≡ bytes.now) }
     {
@@ -43,18 +48,24 @@ impl Bytes {
         })
     }
 
+    /// The bytes, as a vector.
     pub fn into_vec(self) -> Vec<u8>
         ensures { result.items ≡ self }
     {
         self.items
     }
 
+    /// The bytes.
     pub fn as_slice(&self) -> &[u8]
         ensures { result.now ≡ self.now }
     {
         &self.items
     }
 
+    /// An equal copy.
+    ///
+    /// # Errors
+    /// `AllocError` if there is no memory.
     pub fn try_clone(&self, alloc: Global) -> Result<Bytes, AllocError>
         ensures { IfOk result (λ b. b ≡ self.now) }
     {
@@ -79,6 +90,7 @@ impl Model for Text {
 }
 
 impl Text {
+    /// The empty text.
     pub fn new(alloc: Global) -> Text
         ensures { result ≡ [] }
     {
@@ -94,12 +106,17 @@ impl Text {
         Text { text }
     }
 
+    /// The text, as a string.
     pub fn into_string(self) -> String
         ensures { string_bytes result ≡ self }
     {
         self.text
     }
 
+    /// A copy of the text.
+    ///
+    /// # Errors
+    /// `AllocError` if there is no memory.
     pub fn from_str(alloc: Global, text: &str) -> Result<Text, AllocError>
         ensures { IfOk result (λ t. t ≡ text.now) }
     {
@@ -108,18 +125,24 @@ impl Text {
         })
     }
 
+    /// The bytes of the text in UTF-8.
     pub fn as_bytes(&self) -> &[u8]
         ensures { result.now ≡ self.now }
     {
         self.text.as_bytes()
     }
 
+    /// The text.
     pub fn as_str(&self) -> &str
         ensures { result.now ≡ self.now }
     {
         self.text.as_str()
     }
 
+    /// An equal copy.
+    ///
+    /// # Errors
+    /// `AllocError` if there is no memory.
     pub fn try_clone(&self, alloc: Global) -> Result<Text, AllocError>
         ensures { IfOk result (λ t. t ≡ self.now) }
     {
@@ -142,6 +165,7 @@ impl<T> Model for Repeated<T> {
 }
 
 impl<T> Repeated<T> {
+    /// The list of no items.
     pub fn new(alloc: Global) -> Repeated<T>
         ensures { result ≡ [] }
     {
@@ -157,18 +181,24 @@ impl<T> Repeated<T> {
         Repeated { items }
     }
 
+    /// The items, as a vector.
     pub fn into_vec(self) -> Vec<T>
         ensures { result.items ≡ self }
     {
         self.items
     }
 
+    /// The items.
     pub fn as_slice(&self) -> &[T]
         ensures { result.now ≡ self.now }
     {
         &self.items
     }
 
+    /// Adds an item at the end.
+    ///
+    /// # Errors
+    /// `AllocFailed` if there is no memory. The list is then as before.
     pub fn push(&mut self, item: T) -> Result<(), AllocFailed<T>>
         ensures ok { OnOk result (self.new ≡ self.old ++ item ∷ []) }
         ensures err { OnErr result (self.new ≡ self.old) }

@@ -34,20 +34,30 @@ pub trait Message: Drop {
     fn new(alloc: Global) -> Self
         ensures { result ≡ table.start };
 
-    /// Reads one more field; one of another number changes nothing. After an `Err` the message is as before, but for a
-    /// single message that the field was to be read into: it is absent.
+    /// Reads one more field. A field of another number changes nothing.
+    ///
+    /// # Errors
+    /// `BadMessage` exactly if the content cannot be read as the field, or `OutOfMemory`. The message is then as
+    /// before, except for a single message that the field was to be read into: it is absent.
     fn read_field(&mut self, alloc: Global, field: &Field) -> Result<(), ProtoError>
         ensures reads { Becomes BadMessage result self.new (table.step self.old (field_of field.now)) }
         ensures err { OnErr result (self.new ≡ table.refused self.old (field_of field.now)) };
 
-    /// Writes the fields at the end of `out`. After an `Err` nothing is said of `out`.
+    /// Writes the fields at the end of `out`.
+    ///
+    /// # Errors
+    /// `AllocError` if there is no memory. No clause speaks of `out` then.
     fn write_fields(&self, alloc: Global, out: &mut Vec<u8>) -> Result<(), AllocError>
         ensures bytes { OnOk result (out.new.items ≡ out.old.items ++ spelling (table.write self.now)) }
 
         // What is written is a message that is read again.
         ensures fits { OnOk result (IsTrue (table.fits self.now)) };
 
-    /// Reads each field that the bytes spell into the message. After an `Err` it has no field, as a new one.
+    /// Reads each field that the bytes spell into the message.
+    ///
+    /// # Errors
+    /// `BadMessage` exactly if the bytes spell no fields that can be read into it, or `OutOfMemory`. The message has
+    /// no field then, as a new one.
     final fn merge(&mut self, alloc: Global, bytes: &[u8]) -> Result<(), ProtoError>
         ensures reads { Becomes BadMessage result self.new (read_into table.step self.old bytes.now) }
         ensures err { OnErr result (self.new ≡ table.start) }
@@ -70,8 +80,8 @@ pub trait Message: Drop {
     /// The message that the bytes spell. Unknown fields are skipped.
     ///
     /// # Errors
-    /// `BadMessage` exactly where the bytes spell no fields, or where the message has one of them with another type, a
-    /// text of it is not UTF-8, or a body of it is not such a message; and `OutOfMemory`.
+    /// `BadMessage` exactly if the bytes spell no fields, or one of them does not fit. A field does
+    /// not fit if it has another type, its text is not UTF-8, or its body is not the message. `OutOfMemory`.
     final fn decode(alloc: Global, bytes: &[u8]) -> Result<Self, ProtoError>
         ensures exact { Reads BadMessage result (decoded table.read bytes.now) }
 

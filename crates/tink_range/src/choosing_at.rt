@@ -20,17 +20,21 @@ use tink_streaming_ciphers::StreamSegment;
 use tink_streaming_io::Opener;
 use tink_streaming_keys::{DerivesStreams, opener_behind};
 
-// How the stream of an object is opened, and the bytes of its front.
+/// How the stream of an object is decrypted, and the bytes of its output prefix and header (`front`).
 #[derive(Drop)]
 pub struct BegunAt {
+    /// How the segments are opened.
     pub opener: Opener<StreamSegment>,
+    /// The bytes of the output prefix and the header.
     pub front: u64,
 }
 
-// The same under the key in this place of a list.
+/// The same under the key at `place` of a list of keys.
 #[derive(Drop)]
 pub struct ChosenAt {
+    /// How the stream is opened.
     pub begun: BegunAt,
+    /// The place of the key in the list, from 0 on.
     pub place: usize,
 }
 
@@ -132,8 +136,12 @@ fn try_at<A: ReadAt, T: DerivesStreams, L: Ledger>(
     }
 }
 
-// How the stream of an object is opened: by the first key under which it begins with the associated data, and the place
-// of this key, or none.
+/// Chooses the first key under which the stream of an object begins with the associated data. The answer is how the
+/// stream is decrypted and the key's place in the list, or `None` if it begins under no key. Each trial of a first
+/// segment is a step.
+///
+/// # Errors
+/// `Failed` if the object failed.
 pub fn choose_at<A: ReadAt, T: DerivesStreams, L: Ledger>(
     keys: &[T],
     aad: &[u8],

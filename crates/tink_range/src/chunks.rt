@@ -23,9 +23,13 @@ use tink_streaming_segment::SegmentDecrypter;
 /// How the chunks of a stream are opened, the bytes of its front and those behind it, and memory for a chunk.
 #[derive(Drop)]
 pub struct RangeCore<D: SegmentDecrypter> {
+    /// How the segments are opened.
     pub opener: Opener<D>,
+    /// The bytes of the output prefix and the header.
     pub front: u64,
+    /// The bytes of the segments.
     pub behind: u64,
+    /// The memory of a chunk.
     pub buffers: Buffers,
     ghost sealed: { opener.size ≤ vec_len buffers.sealed },
     ghost text: { opener.size ≤ vec_capacity buffers.text },
@@ -37,7 +41,11 @@ pub struct RangeCore<D: SegmentDecrypter> {
 impl<D: SegmentDecrypter> RangeCore<D> {
     ghost use Rattle.tink_range.specs.RangeCores.{IsSameCore, chunk_in, cutting_of};
 
-    // Opens the chunk of that number, which begins at `start` behind the front, in one step.
+    /// Decrypts the chunk of that number, which begins at byte `start` behind the front, in one step. The answer is
+    /// whether it is the segment of a text, which is then in the buffer.
+    ///
+    /// # Errors
+    /// `Failed` if the object failed. No step is counted then.
     pub fn open_chunk<A: ReadAt, L: Ledger>(
         &mut self,
         object: &mut A,
@@ -70,7 +78,12 @@ impl<D: SegmentDecrypter> RangeCore<D> {
         )
     }
 
-    // Writes the range's part of the text of a chunk that is touched, and answers how many bytes, in one step.
+    /// Writes the range's part of the text of a chunk that the range touches, in one step. The answer is how many
+    /// bytes it wrote.
+    ///
+    /// # Errors
+    /// `ReadFault` if the object failed, and `BadSegment` if the chunk is the segment of no text: nothing is written
+    /// then. `WriteFault` if the sink failed, with a prefix of the part written.
     pub fn give_chunk<A: ReadAt, K: Sink, L: Ledger>(
         &mut self,
         object: &mut A,
@@ -102,7 +115,7 @@ impl<D: SegmentDecrypter> RangeCore<D> {
         }
     }
 
-    // The number of chunks, the places of their text, and where the last one begins.
+    /// The number of chunks, the bytes of their text, and the byte at which the last one begins.
     pub fn shape(&self) -> Shape
         ensures shape { (X : List ℕ) → length X ≡ self.now.behind
             → HasShape self.now.opener.first self.now.opener.size self.now.opener.overhead X
@@ -120,7 +133,7 @@ impl<D: SegmentDecrypter> RangeCore<D> {
         )
     }
 
-    // How many bytes the text has.
+    /// The bytes of the text of all chunks.
     pub fn text_len(&self) -> u64
         ensures { result ≡ text_length self.now.opener.first self.now.opener.size self.now.opener.overhead
             self.now.behind }
@@ -129,7 +142,11 @@ impl<D: SegmentDecrypter> RangeCore<D> {
         shape.text
     }
 
-    // Opens the last chunk, which begins at `start` behind the front, in one step.
+    /// Decrypts the last chunk, which begins at byte `start` behind the front, in one step.
+    ///
+    /// # Errors
+    /// `ReadFault` if the object failed. If the chunk is the segment of no text, `Truncated` if it is shorter than the
+    /// overhead, and else `BadSegment`.
     pub fn check_last<A: ReadAt, L: Ledger>(
         &mut self,
         object: &mut A,

@@ -59,7 +59,13 @@ fn give_from<A: ReadAt, D: SegmentDecrypter, K: Sink, L: Ledger>(
     Ok(given)
 }
 
-// Writes the range's parts of the texts of the chunks that it touches, none where it is empty.
+/// Writes the range's parts of the texts of the chunks that the range touches, none if it is empty. The answer is how
+/// many bytes it wrote.
+///
+/// # Errors
+/// `ReadFault` or `WriteFault` if the object or the sink failed: a prefix of the parts of some touched chunks is
+/// written then. `BadSegment` of the first touched chunk that is the segment of no text, with the parts before it
+/// written.
 pub fn give_range<A: ReadAt, D: SegmentDecrypter, K: Sink, L: Ledger>(
     core: &mut RangeCore<D>,
     object: &mut A,

@@ -7,7 +7,7 @@ pub fn law_range_of_stream()
     ensures { IsSliceOfStream }
 {}
 
-/// How many chunks and places so many bytes have is the same for all bytes.
+/// The number of chunks and of places depends on the number of bytes alone.
 pub fn law_shape_of_any()
     ensures { IsShapeOfAny }
 {}

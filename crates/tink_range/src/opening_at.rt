@@ -14,7 +14,8 @@ use tink_io::Failed;
 use tink_streaming_io::{Opener, open_held};
 use tink_streaming_segment::SegmentDecrypter;
 
-// The size of a segment that others follow.
+/// The bytes that a segment of this number has at most: `first` for segment 0, which follows the front, and else
+/// `size`.
 pub fn room_of<D: SegmentDecrypter>(opener: &Opener<D>, number: u64) -> usize
     ensures value { result ≡ room_at opener.now.first opener.now.size number }
     ensures most { result ≤ opener.now.size }
@@ -60,8 +61,12 @@ fn open_into<A: ReadAt, D: SegmentDecrypter, L: Ledger>(
     }
 }
 
-// Opens the chunk of that number, from whose place `at` the object has `rest` bytes, in one step. It is the last one where
-// these are no more than its room.
+/// Decrypts the chunk of that number, in one step. From its place `at` on the object has `rest` bytes. If the segment
+/// has room for all of them, the chunk is the last one. The answer is whether it is the segment of a text, which is
+/// then in `text`.
+///
+/// # Errors
+/// `Failed` if the object failed. No step is counted then.
 pub fn open_at<A: ReadAt, D: SegmentDecrypter, L: Ledger>(
     opener: &Opener<D>,
     object: &mut A,

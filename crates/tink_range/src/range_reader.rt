@@ -46,10 +46,10 @@ impl<A: ReadAt> Model for RangeReader<A> {
 }
 
 impl<A: ReadAt> RangeReader<A> {
-    /// A reader of the stream of `object` under the first key of `w` under which it begins with the associated data. It
-    /// takes one step for each key, up to the chosen one, that the object begins with a front of, with bytes behind it,
-    /// and whose hash derives keys: the first segment is opened. By `OutOfMemory` or `ReadFault` it takes no more steps
-    /// than there are keys.
+    /// A reader of the stream of `object` under the first key of `w` under which it begins with the associated data.
+    /// It takes one step, the decryption of the first segment, for each key that it tries, up to the chosen one. It
+    /// tries a key if the object begins with a front of the key, has bytes behind it, and the key's hash derives keys.
+    /// By `OutOfMemory` or `ReadFault` it takes no more steps than there are keys.
     ///
     /// # Errors
     /// The refusal hands back the object. `OutOfMemory`, with the object as before; `ReadFault` where the object
@@ -97,16 +97,18 @@ impl<A: ReadAt> RangeReader<A> {
     }
 
     /// Writes the bytes of the text from place `start` on and below `start + len`, as far as there are such, and
-    /// answers how many. By Ok it takes one step for each chunk that the range touches, and one for the last chunk of
-    /// the stream; whatever the answer at most two more than the chunks that the range's own length fills. The reader
-    /// is then as before but for the object, and keeps the memory that it has.
+    /// answers how many. If the answer is Ok, it took one step for each chunk that the range touches, and one for the
+    /// last chunk of the stream. Whatever the answer, it took at most two more than the chunks that the range's own
+    /// length fills. The reader is then as before but for the object, and keeps the memory that it has.
     ///
     /// # Errors
-    /// `ReadFault` or `WriteFault` where the object or the sink failed, with a prefix written of what some touched
-    /// chunks give; `TooManySegments` exactly where there are more than 2^32 chunks, with nothing written;
-    /// `Truncated` or `BadSegment` where the last chunk is the segment of no text, with nothing written, the first where
-    /// it is shorter than any segment; `BadSegment` of the first touched chunk that is the segment of no text, with the
-    /// range's bytes before it written.
+    /// - `ReadFault` or `WriteFault` if the object or the sink failed. A prefix is then written of what some touched
+    ///   chunks give.
+    /// - `TooManySegments` exactly if there are more than 2^32 chunks. Nothing is written then.
+    /// - If the last chunk is the segment of no text, `Truncated` if it is shorter than any segment, and else
+    ///   `BadSegment`. Nothing is written then.
+    /// - `BadSegment` of the first touched chunk that is the segment of no text. The range's bytes before it are
+    ///   written then.
     pub fn read_range<K: Sink, L: Ledger>(
         &mut self,
         start: u64,

@@ -15,7 +15,10 @@ use std::sync::ledger::Ledger;
 use tink_io::{Kind, Sink, TinkError};
 use tink_streaming_segment::SegmentDecrypter;
 
-// The shape of an object's chunks, of which there are no more than numbers, once the last one is opened.
+/// The shape of an object's chunks, after the last chunk was decrypted.
+///
+/// # Errors
+/// `TooManySegments` exactly if there are more than 2^32 chunks; then those of `check_last`.
 pub fn check_end<A: ReadAt, D: SegmentDecrypter, L: Ledger>(
     core: &mut RangeCore<D>,
     object: &mut A,
@@ -43,7 +46,11 @@ pub fn check_end<A: ReadAt, D: SegmentDecrypter, L: Ledger>(
     }
 }
 
-// Writes a range of the text of an object's chunks, once the last chunk is opened.
+/// Writes a range of the text of an object's chunks, after the last chunk was decrypted. The answer is how many bytes
+/// it wrote.
+///
+/// # Errors
+/// Those of `check_end`, with nothing written; then those of `give_range`.
 pub fn read_range<A: ReadAt, D: SegmentDecrypter, K: Sink, L: Ledger>(
     core: &mut RangeCore<D>,
     object: &mut A,

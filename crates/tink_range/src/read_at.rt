@@ -7,7 +7,7 @@ ghost use Rattle.tink_range.specs.ReadCounts.{read_count};
 
 use tink_io::Failed;
 
-/// An object of so many bytes, which is read in any place.
+/// An object of known length, which is read in any place.
 pub trait ReadAt {
     // How many bytes it has. No call changes it.
     ghost length_of: { Self → ℕ };
@@ -29,11 +29,12 @@ pub trait ReadAt {
     fn size(&self) -> u64
         ensures { result ≡ length_of self.now };
 
-    /// Moves some of the bytes from `pos` on to the beginning of `buf`, and answers how many; what `buf` has behind them
-    /// is left open. Below the object's end a buffer that is not empty gets a byte at least. At the end and past it there
-    /// is none.
+    /// Moves some of the bytes from `pos` on to the beginning of `buf`, and answers how many; what `buf` has behind
+    /// them is left open. Below the object's end a buffer that is not empty gets a byte at least. At the end and past
+    /// it there is none.
     ///
-    /// `Failed` raises the count, and any other answer leaves it as it was.
+    /// # Errors
+    /// `Failed` if the object failed. It raises the count of faults, and any other answer leaves the count as it was.
     fn read_at(&mut self, pos: u64, buf: &mut [u8]) -> Result<usize, Failed>
         ensures room { IfOk result (λ n. n ≤ length buf.old) }
         ensures within { IfOk result (λ n. n ≤ length_of self.old - pos) }

@@ -4,7 +4,10 @@ ghost use Rattle.tink_range.specs.Objects.{ReadsObject};
 use crate::read_at::ReadAt;
 use tink_io::Failed;
 
-// Fills `buf` with the bytes of an object from `at` on.
+/// Fills `buf` with the bytes of an object from byte `at` on.
+///
+/// # Errors
+/// `Failed` if the object failed.
 pub fn fill_at<A: ReadAt>(object: &mut A, at: u64, buf: &mut [u8]) -> Result<(), Failed>
     requires within { at + length buf.old ≤ A.length_of object.old }
     requires fits { at + length buf.old < 2 ^ 64 }

@@ -1,28 +1,34 @@
-//! How many chunks so many bytes have, and where they begin.
+//! How many chunks a number of bytes has, and where they begin.
 
 ghost use Rattle.std.specs.Prelude.{◌≡◌, ◌≤◌, ◌<◌, ◌+◌, ◌-◌, ◌^◌, ℕ, List, length, min};
 ghost use Rattle.stream_model.specs.Cut.{room_at};
 ghost use Rattle.tink_range.specs.Ranges.{text_length};
 ghost use Rattle.tink_range.specs.Shapes.{HasShape, IsChunkPlace};
 
-// The number of chunks of some bytes, the places of their text, and what is before the last chunk.
+/// The number of chunks (`count`), the bytes of their text (`text`), and the bytes before the last chunk (`last`).
 #[derive(Clone, Copy)]
 pub struct Shape {
+    /// The number of chunks.
     pub count: u64,
+    /// The bytes of their text.
     pub text: u64,
+    /// The bytes before the last chunk.
     pub last: u64,
 }
 
-// Where a chunk begins: its number, the bytes before it, and the places of the text before it.
+/// The place of a chunk: its number, the bytes before it (`start`), and the bytes of the text before it (`text`).
 #[derive(Clone, Copy)]
 pub struct Place {
+    /// The number of the chunk, from 0 on.
     pub number: u64,
+    /// The bytes before the chunk.
     pub start: u64,
+    /// The bytes of the text before it.
     pub text: u64,
 }
 
-// The shape of so many bytes, of which the first chunk has `first` at most and each later one `size`, `over` of them
-// without text.
+/// The shape of `behind` bytes. The first chunk has at most `first` bytes, each later one `size`; `over` of them are
+/// overhead.
 pub fn shape_of(first: u64, size: u64, over: u64, behind: u64) -> Shape
     requires over { over < first }
     requires fits { first ≤ size }
@@ -51,7 +57,7 @@ pub fn shape_of(first: u64, size: u64, over: u64, behind: u64) -> Shape
     }
 }
 
-// The chunk that has a place of the text.
+/// The chunk that has the byte `lo` of the text.
 pub fn place_of(first: u64, size: u64, over: u64, behind: u64, lo: u64) -> Place
     requires over { over < first }
     requires fits { first ≤ size }
@@ -76,7 +82,7 @@ pub fn place_of(first: u64, size: u64, over: u64, behind: u64, lo: u64) -> Place
     }
 }
 
-// Where the next chunk begins, or the end.
+/// The place of the next chunk, or the end.
 pub fn next_place(first: u64, size: u64, over: u64, behind: u64, place: Place) -> Place
     requires number { place.number < 2 ^ 32 }
     requires start { place.start < behind }

@@ -19,14 +19,20 @@ use tink_streaming_ciphers::{AES_CTR_HMAC_NONCE_SIZE_IN_BYTES, StreamSegment};
 use tink_streaming_io::{Buffers, Kept};
 use tink_streaming_keys::{DerivesStreams, Trial};
 
-// The chunks of an object behind the front of a key, and the place of this key in a list.
+/// The chunks of an object behind the front of a key, and the key's place in a list.
 #[derive(Drop)]
 pub struct StartedAt {
+    /// How the chunks are opened.
     pub core: RangeCore<StreamSegment>,
+    /// The place of the key in the list, from 0 on.
     pub place: usize,
 }
 
-// The chunks of an object behind the front of the first key under which its stream begins, and the key's place.
+/// The chunks of an object behind the front of the first key under which its stream begins, and the key's place in the
+/// list.
+///
+/// # Errors
+/// `ReadFault` if the object failed; `NoMatchingKey` if the stream begins under no key.
 pub fn start_placed<A: ReadAt, T: DerivesStreams, L: Ledger>(
     keys: &[T],
     aad: &[u8],
@@ -91,7 +97,10 @@ pub fn start_placed<A: ReadAt, T: DerivesStreams, L: Ledger>(
     }
 }
 
-// The same without the place.
+/// The chunks of an object behind the front of the first key under which its stream begins.
+///
+/// # Errors
+/// As `start_placed`.
 pub fn start_at<A: ReadAt, T: DerivesStreams, L: Ledger>(
     keys: &[T],
     aad: &[u8],
@@ -120,7 +129,11 @@ pub fn start_at<A: ReadAt, T: DerivesStreams, L: Ledger>(
     }
 }
 
-// The same of the keys of a keyset. All memory is taken first.
+/// The chunks of an object behind the front of the first key of a keyset under which its stream begins. All memory is
+/// taken first.
+///
+/// # Errors
+/// `OutOfMemory`, with the object as before; else those of `start_placed`.
 pub fn begin_at<A: ReadAt, L: Ledger>(
     alloc: Global,
     w: &WrappedStreamingAead,

@@ -14,7 +14,7 @@ use std::sync::ledger::Ledger;
 use tink_io::TinkError;
 use tink_streaming_keys::{DerivesStreams, Trial};
 
-/// What is known of a stream without its text: the place of its key in a list, its segments, and the bytes of its text.
+/// The sizes of a stream: the place of its key in a list, its segments, and the bytes of its text.
 #[derive(Clone, Copy, Debug, PartialEq, Eq)]
 pub struct StreamSizes {
     /// The place in the list of keys, from 0 on.
@@ -30,9 +30,9 @@ pub struct StreamSizes {
 /// takes a step for each key at most, and one for the last segment.
 ///
 /// # Errors
-/// `NoMatchingKey` where the object begins under none of the keys; `TooManySegments` exactly where it has more than
-/// 2^32 segments; `Truncated` or `BadSegment` where the last one is the segment of no text, the first where it is
-/// shorter than any segment; `ReadFault` where the object failed.
+/// `NoMatchingKey` if the object begins under none of the keys. `TooManySegments` exactly if it has more than 2^32
+/// segments. If the last one is the segment of no text, `Truncated` if it is shorter than any segment, and else
+/// `BadSegment`. `ReadFault` if the object failed.
 pub fn sizes_under<A: ReadAt, T: DerivesStreams, L: Ledger>(
     keys: &[T],
     aad: &[u8],

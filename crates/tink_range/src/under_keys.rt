@@ -14,12 +14,12 @@ use std::sync::ledger::Ledger;
 use tink_io::{Sink, TinkError};
 use tink_streaming_keys::{DerivesStreams, Trial};
 
-/// Writes a range of the text of the stream that an object is, under the first of the keys that it begins under, in the
-/// memory of `trial`. It answers how many bytes, as `RangeReader::read_range` does.
+/// Writes a range of the text of the stream that an object is, in the memory of `trial`. The key is the first under
+/// which the object begins. It answers how many bytes, as `RangeReader::read_range` does.
 ///
 /// # Errors
-/// `NoMatchingKey` where the object begins under none of the keys, `ReadFault` where it failed before one was chosen,
-/// both with nothing written; and those of `RangeReader::read_range`.
+/// `NoMatchingKey` if the object begins under none of the keys, `ReadFault` if it failed before one was chosen:
+/// nothing is written then. Those of `RangeReader::read_range`.
 pub fn range_under<A: ReadAt, T: DerivesStreams, K: Sink, L: Ledger>(
     keys: &[T],
     aad: &[u8],

@@ -7,7 +7,11 @@ ghost use Rattle.tink_range.specs.Ranges.{within};
 
 use tink_io::{Sink, TinkError, write_all};
 
-// Writes of a text that begins at place `at` what is from `lo` on and below `hi`, and answers how many bytes.
+/// Writes the part of a text that the range from `lo` to below `hi` has. The text begins at byte `at`. The answer is
+/// how many bytes it wrote.
+///
+/// # Errors
+/// `WriteFault` if the sink failed, with a prefix of the part written.
 pub fn write_part<K: Sink>(
     sink: &mut K,
     text: &[u8],

@@ -48,6 +48,9 @@ pub trait KeyManager {
     ghost gives_public: { Self → List ℕ → Result KeyData Kind };
 
     /// The primitive of a key's bytes.
+    ///
+    /// # Errors
+    /// Those of the meaning `builds`, by the type. `OutOfMemory`.
     fn primitive(
         &self,
         alloc: Global,
@@ -56,6 +59,9 @@ pub trait KeyManager {
         ensures answer { Answers result (builds self.now serialized_key.now) };
 
     /// The bytes of a new key of the format.
+    ///
+    /// # Errors
+    /// Those of the meaning `makes`, by the type. `OutOfMemory`.
     fn new_key(
         &self,
         alloc: Global,
@@ -77,6 +83,9 @@ pub trait KeyManager {
         ensures value { result ≡ material self.now };
 
     /// The data of a new key of the format.
+    ///
+    /// # Errors
+    /// Those of the meaning `makes_data`, by the type. `OutOfMemory`.
     fn new_key_data(
         &self,
         alloc: Global,
@@ -90,7 +99,11 @@ pub trait KeyManager {
     fn supports_private_keys(&self) -> bool
         ensures value { result ≡ has_public self.now };
 
-    /// The data of a key's public part, or `NoPrivateKeys` exactly where its keys have none.
+    /// The data of a key's public part.
+    ///
+    /// # Errors
+    /// `NoPrivateKeys` exactly if its keys have no public part; else those of the meaning `gives_public`, by the type.
+    /// `OutOfMemory`.
     fn public_key_data(&self, alloc: Global, serialized_key: &[u8]) -> Result<KeyData, TinkError>
         ensures answer { Answers result (gives_public self.now serialized_key.now) };
 

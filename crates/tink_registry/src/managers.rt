@@ -5,7 +5,7 @@ ghost use Rattle.tink_registry.specs.Listed.{manager_of, are_all_fresh};
 
 use crate::KeyManager;
 
-// The first manager of a URL.
+/// The first manager of a URL.
 pub fn find_manager<'a, M: KeyManager>(managers: &'a [M], url: &str) -> Option<&'a M>
     ensures value { MatchOption result (manager_of M.url url.now managers.now ≡ None)
         (λ m. manager_of M.url url.now managers.now ≡ Some m.now) }
@@ -26,7 +26,7 @@ fn is_taken<M: KeyManager>(old: &[M], new: &[M], url: &str) -> bool
     find_manager(old, url).is_some() || find_manager(new, url).is_some()
 }
 
-// Whether no new manager has the URL of an old one or of a new one before it.
+/// Whether no new manager has the URL of an old one or of a new one before it.
 #[tactic(auto, using(crate::proofs::Lists::fresh_step))]
 pub fn are_fresh<M: KeyManager>(old: &[M], new: &[M]) -> bool
     ensures value { result ≡ are_all_fresh M.url old.now new.now }

@@ -46,6 +46,9 @@ impl<M> Registry<M> {
     }
 
     /// Adds a template under its name, in place of the one of that name.
+    ///
+    /// # Errors
+    /// `OutOfMemory`. Nothing is added then.
     pub fn register_template_generator(
         &mut self,
         alloc: Global,
@@ -78,6 +81,9 @@ impl<M> Registry<M> {
     }
 
     /// The names of the templates, in the order of their bytes, each once.
+    ///
+    /// # Errors
+    /// `OutOfMemory` alone.
     pub fn template_names(&self, alloc: Global) -> Result<Vec<Text>, TinkError>
         ensures names { IfOk result (λ names. names.items ≡ names_of self.now.templates) }
         ensures sorted { IfOk result (λ names. AreRising names.items) }
@@ -92,7 +98,10 @@ impl<M> Registry<M> {
 }
 
 impl<M: KeyManager> Registry<M> {
-    /// Adds a manager under its URL, or refuses by `AlreadyRegistered` exactly where the URL is there.
+    /// Adds a manager under its URL.
+    ///
+    /// # Errors
+    /// `AlreadyRegistered` exactly if a manager of the URL is there, or `OutOfMemory`. Nothing is added then.
     pub fn register_key_manager(&mut self, _alloc: Global, km: M) -> Result<(), TinkError>
     where
         M: Drop,
@@ -110,7 +119,10 @@ impl<M: KeyManager> Registry<M> {
         Ok(())
     }
 
-    /// The manager of a URL, or `UnsupportedKeyType` exactly where none has it.
+    /// The manager of a URL.
+    ///
+    /// # Errors
+    /// `UnsupportedKeyType` exactly if no manager has it.
     pub fn get_key_manager(&self, type_url: &str) -> Result<&M, TinkError>
         ensures manager { OnOk result (is_some (manager_of M.url type_url.now self.now.managers) ≡ true) }
         ensures value { MatchResult result
@@ -124,7 +136,10 @@ impl<M: KeyManager> Registry<M> {
         }
     }
 
-    /// The data of a new key by a template: `UnsupportedKeyType`, then the manager's refusals.
+    /// The data of a new key by a template.
+    ///
+    /// # Errors
+    /// `UnsupportedKeyType` if no manager has the template's URL, then what the manager refuses. `OutOfMemory`.
     pub fn new_key_data(
         &self,
         alloc: Global,
@@ -138,7 +153,10 @@ impl<M: KeyManager> Registry<M> {
         m.new_key_data(alloc, kt.value.as_slice(), draws)
     }
 
-    /// The bytes of a new key by a template: `UnsupportedKeyType`, then the manager's refusals.
+    /// The bytes of a new key by a template.
+    ///
+    /// # Errors
+    /// `UnsupportedKeyType` if no manager has the template's URL, then what the manager refuses. `OutOfMemory`.
     pub fn new_key(
         &self,
         alloc: Global,
@@ -152,8 +170,11 @@ impl<M: KeyManager> Registry<M> {
         m.new_key(alloc, kt.value.as_slice(), draws)
     }
 
-    /// The primitive of a key: `InvalidKey` where its value is empty, `UnsupportedKeyType`, then the manager's
-    /// refusals.
+    /// The primitive of a key's bytes.
+    ///
+    /// # Errors
+    /// The first that applies: `InvalidKey` if there are no bytes; `UnsupportedKeyType` if no manager has the URL;
+    /// what the manager refuses. `OutOfMemory`.
     pub fn primitive(
         &self,
         alloc: Global,
@@ -170,7 +191,10 @@ impl<M: KeyManager> Registry<M> {
         m.primitive(alloc, serialized_key)
     }
 
-    /// The primitive of a key's data, as `primitive`.
+    /// The primitive of a key's data.
+    ///
+    /// # Errors
+    /// As `primitive`.
     pub fn primitive_from_key_data(
         &self,
         alloc: Global,
@@ -182,8 +206,11 @@ impl<M: KeyManager> Registry<M> {
         self.primitive(alloc, kd.type_url.as_str(), kd.value.as_slice())
     }
 
-    /// Adds all of both lists in order or, after a refusal, nothing. `AlreadyRegistered` comes exactly where a URL of
-    /// `kms` is there or stands twice in `kms`.
+    /// Adds all of both lists in order, or nothing.
+    ///
+    /// # Errors
+    /// `AlreadyRegistered` exactly if a manager of a URL of `kms` is there, or two of `kms` have one URL; or
+    /// `OutOfMemory`. Nothing is added then.
     pub fn register_all(
         &mut self,
         _alloc: Global,

@@ -28,7 +28,7 @@ fn place_of(templates: &[(Text, KeyTemplate)], name: &str) -> Result<usize, usiz
     Err(templates.len())
 }
 
-// Puts a template into its place, with room for it.
+/// Puts a template into its place in the order of the names. There is memory for it.
 pub fn put_template(templates: &mut Vec<(Text, KeyTemplate)>, name: Text, kt: KeyTemplate)
     requires room { vec_len templates.old < vec_capacity templates.old }
     ensures items { templates.new.items ≡ with_template templates.old.items (name, kt) }
@@ -44,7 +44,7 @@ pub fn put_template(templates: &mut Vec<(Text, KeyTemplate)>, name: Text, kt: Ke
     }
 }
 
-// Puts templates into their places, with room for them.
+/// Puts templates into their places in the order of the names. There is memory for them.
 pub fn put_templates(templates: &mut Vec<(Text, KeyTemplate)>, kts: Vec<(Text, KeyTemplate)>)
     requires room { vec_len templates.old + vec_len kts ≤ vec_capacity templates.old }
     ensures items { templates.new.items ≡ fold with_template templates.old.items kts.items }

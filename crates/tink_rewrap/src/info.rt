@@ -1,4 +1,4 @@
-//! What is known of a sealed stream under Tink keysets without opening all of it.
+//! The key and the sizes of a stream under Tink keysets, found without decrypting all of it.
 
 mod of_keyset;
 mod of_set;

@@ -1,4 +1,4 @@
-//! Sealed streams under Tink keysets: what is known of them, ranges of their texts, and their move to another keyset.
+//! Streams under Tink keysets: their keys and sizes, ranges of their plaintexts, and their move to another keyset.
 #![tactic(auto)]
 
 pub mod info;

@@ -20,10 +20,10 @@ use tink_streaming_aead::StreamKind;
 /// Loads the keys of streams of a keyset in the wire format, by the managers of all types of keys.
 ///
 /// # Errors
-/// The first that applies: `BadKeyset` where the bytes are no keyset, `InvalidKeyset` where it is not
-/// valid, `UnsupportedKeyType` or `InvalidKey` by the first enabled key that does not build,
-/// `NoPrimary` where no enabled key has the primary id, and `WrongPrimitive` where an enabled key is
-/// none of streams. `OutOfMemory` may come in place of each.
+/// The first that applies: `BadKeyset` if the bytes are no keyset. `InvalidKeyset` if it is not valid.
+/// `UnsupportedKeyType` or `InvalidKey` of the first enabled key that does not build. `NoPrimary` if no
+/// enabled key has the primary id. `WrongPrimitive` if an enabled key is none of streams. `OutOfMemory` may
+/// come in place of each.
 pub fn load(alloc: Global, bytes: &[u8]) -> Result<TypedPrimitiveSet<StreamKind>, TinkError>
     ensures answer { GivesLoaded result (load bytes.now) }
     ensures primary { IfOk result (λ set. is_some set.primary ≡ true) }

@@ -23,14 +23,15 @@ use tink_streaming_aead::{
 /// Opens what the source has left under the first key of a set that it begins under.
 ///
 /// # Errors
-/// OutOfMemory before anything was read or written; NoMatchingKey where the stream begins under no
-/// key; Truncated and BadSegment where a later segment is shorter than a tag or the segment of
-/// no text; TooManySegments where bytes follow 2^32 segments; ReadFault and WriteFault. Texts whose
-/// segments lead the stream were written then, and by WriteFault a prefix of such. At most a byte
-/// more was read than the longest output prefix and segment of the keys have together: from the
-/// stream's beginning where no key was chosen, from that of the chunk that was refused, or else from
-/// behind the chunks of those texts. By ReadFault it was no more than one chunk behind them, so that
-/// no text was lost but perhaps the first or that of the last segment.
+/// `OutOfMemory` before anything was read or written. `NoMatchingKey` if the stream begins under no key.
+/// `Truncated` and `BadSegment` if a later segment is shorter than a tag or the segment of no text.
+/// `TooManySegments` if bytes follow 2^32 segments. `ReadFault` and `WriteFault`. Texts whose segments lead
+/// the stream were written then, and by `WriteFault` a prefix of these texts.
+///
+/// At most a byte more was read than the longest output prefix and segment of the keys have together. This
+/// counts from the stream's beginning if no key was chosen, and from the beginning of the chunk that was
+/// refused. Else it counts from behind the chunks of those texts. By `ReadFault` it was no more than one
+/// chunk behind them: no text was lost but perhaps the first or that of the last segment.
 pub fn open<S: Source, K: Sink>(
     alloc: Global,
     set: &TypedPrimitiveSet<StreamKind>,
@@ -142,8 +143,8 @@ fn open_stream<S: Source, K: Sink, D: SegmentDecrypter + Drop>(
 /// Opens the first segment.
 ///
 /// # Errors
-/// ReadFault; NoMatchingKey where it is the segment of no text. After a trial that saw it open, the
-/// source has gone on after it had said that it was at its end.
+/// ReadFault; NoMatchingKey where it is the segment of no text. If a trial saw it open before, the source has
+/// gone on after its end.
 pub fn open_first<S: Source, D: SegmentDecrypter + Drop>(
     reader: &mut SegmentReader<D>,
     source: &mut S,

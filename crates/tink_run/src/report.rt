@@ -7,9 +7,11 @@ pub struct Report {
     pub bytes: u64,
 }
 
-/// What is done with a stream.
+/// Encryption or decryption of a stream.
 #[derive(Clone, Copy, Debug, PartialEq, Eq)]
 pub enum Command {
+    /// Encryption.
     Seal,
+    /// Decryption.
     Open,
 }

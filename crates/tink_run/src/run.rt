@@ -15,9 +15,9 @@ use tink_io::{Draws, Sink, Source, TinkError};
 use tink_sets::TypedPrimitiveSet;
 use tink_streaming_aead::StreamKind;
 
-/// Seals or opens a stream under a keyset, which is in the wire format: what the source has left goes, sealed under the
-/// primary key or opened under the first key that it begins under, to the sink. A seal takes its salt and the prefix of
-/// its nonces from the draws.
+/// Encrypts or decrypts a stream under a keyset in the wire format. The source's bytes go to the sink, encrypted under
+/// the primary key, or decrypted under the first key under which the stream begins. A seal takes its salt and the
+/// prefix of its nonces from the draws.
 ///
 /// # Errors
 /// The first that applies:
@@ -26,8 +26,8 @@ use tink_streaming_aead::StreamKind;
 /// - `RandomFault` of a seal for which too few draws are left; all this with nothing read, written or drawn;
 /// - `UnsupportedHash` of a seal whose key derives nothing, with the draws taken, and nothing read or written;
 /// - `NoMatchingKey` of an open where the stream begins under no key, with nothing written;
-/// - `TooManySegments` where the stream has more than 2^32 segments; `Truncated` and `BadSegment` of an open where a
-///   later segment is shorter than a tag or that of no text. Of a seal the segments that are surely not the last were
+/// - `TooManySegments` if the stream has more than 2^32 segments. `Truncated` and `BadSegment` of an open if a later
+///   segment is shorter than a tag or that of no text. Of a seal the segments that are surely not the last were
 ///   written, and of an open the texts of the segments before.
 ///
 /// `ReadFault` and `WriteFault` come where an end failed, and `OutOfMemory` before anything was read, written or drawn.

@@ -31,9 +31,9 @@ fn piece_of(alloc: Global) -> Result<Vec<u8>, TinkError>
 /// Seals what the source has left under a key.
 ///
 /// # Errors
-/// OutOfMemory before anything was read, written or drawn; RandomFault where too few draws are
-/// left, which stay; UnsupportedHash where no keys are derived; ReadFault, WriteFault;
-/// TooManySegments where the text has more than 2^32 chunks.
+/// `OutOfMemory` before anything was read, written or drawn. `RandomFault` if too few draws are left: they
+/// stay. `UnsupportedHash` if no keys are derived. `ReadFault`, `WriteFault`. `TooManySegments` if the text
+/// has more than 2^32 chunks.
 pub fn seal<S: Source, K: Sink>(
     alloc: Global,
     key: &TypedEntry<StreamKind>,

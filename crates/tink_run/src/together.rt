@@ -21,8 +21,8 @@ use tink_io::{Draws, Gathered, Kind, Sink, Source, TinkError};
 use tink_sets::{TypedEntry, TypedPrimitiveSet};
 use tink_streaming_aead::StreamKind;
 
-/// Ends what was answered over a gathered sink: all that was given is handed on, nothing waits, and the answer stays, or
-/// the sink has failed, now or before, and has got a prefix of it.
+/// Ends a call over a gathered sink. If the sink has failed, now or before, it has got a prefix of the bytes given.
+/// Else all of them are handed on, nothing waits, and the answer stays.
 ///
 /// # Errors
 /// That of the answer; WriteFault where the sink fails now.

@@ -158,9 +158,9 @@ fn put_keys<M: KeyManager>(
 /// decides each key for whose URL its `does_support` says true, also on an empty value.
 ///
 /// # Errors
-/// For the first enabled key that doesn't build: `InvalidKeyset` where it has no data, the given manager's where that
-/// one decides it, else `InvalidKey` where its value is empty, `UnsupportedKeyType` where no manager has its URL, else
-/// the manager's. `OutOfMemory` may come in place of each.
+/// For the first enabled key that doesn't build: `InvalidKeyset` if it has no data. Those of the given manager if that
+/// one decides it. Else `InvalidKey` if its value is empty, `UnsupportedKeyType` if no manager has its URL, else the
+/// manager's. `OutOfMemory` may come in place of each.
 pub fn build_set<M: KeyManager>(
     alloc: Global,
     keys: &[Key],

@@ -67,8 +67,8 @@ fn public_key<M: KeyManager>(
 /// Each key with its public part alone.
 ///
 /// # Errors
-/// For the first key that gives none: `InvalidKeyset` where it has no data; `NotPrivate` where its material isn't 2;
-/// `UnsupportedKeyType` where no manager has its URL; `NoPrivateKeys` where the manager has no private keys; else the
+/// For the first key that gives none: `InvalidKeyset` if it has no data. `NotPrivate` if its material is not 2.
+/// `UnsupportedKeyType` if no manager has its URL. `NoPrivateKeys` if the manager has no private keys. Else the
 /// manager's. `OutOfMemory` may come in place of each.
 #[tactic(auto, using(crate::proofs::GivenEach::none_yet))]
 pub fn public_keys<M: KeyManager>(

@@ -12,7 +12,7 @@ use tink_primitives::CloneIn;
 use tink_proto::Repeated;
 use tink_set_groups::{Convert, convert_groups};
 
-// Each value as it is.
+/// The conversion that leaves each value as it is.
 pub struct Copies;
 
 impl<E: CloneIn> Convert<E> for Copies {
@@ -25,7 +25,10 @@ impl<E: CloneIn> Convert<E> for Copies {
     }
 }
 
-// The primary entry and the lists of a set, once more.
+/// Equal copies of a set's primary entry and of its lists of entries.
+///
+/// # Errors
+/// `OutOfMemory` alone.
 pub fn clone_set<E: CloneIn>(
     alloc: Global,
     primary: &Option<E>,

@@ -1,4 +1,4 @@
-//! What stands before what a key makes.
+//! The output prefixes of keys.
 
 ghost use Rattle.std.specs.Prelude.{◌≡◌, Ok};
 ghost use Rattle.std.specs.Int.{w32, to_be_bytes};
@@ -13,23 +13,29 @@ use tink_proto::{Bytes, Key, OutputPrefixType};
 /// The number of bytes of a prefix that is not empty.
 pub const NON_RAW_PREFIX_SIZE: usize = 5;
 
+/// The bytes of the output prefix of LEGACY and CRUNCHY keys.
 pub const LEGACY_PREFIX_SIZE: usize = NON_RAW_PREFIX_SIZE;
 
 /// The first byte of the prefix of LEGACY and CRUNCHY keys.
 pub const LEGACY_START_BYTE: u8 = 0;
 
+/// The bytes of the output prefix of TINK keys.
 pub const TINK_PREFIX_SIZE: usize = NON_RAW_PREFIX_SIZE;
 
 /// The first byte of the prefix of TINK keys.
 pub const TINK_START_BYTE: u8 = 1;
 
+/// The bytes of the output prefix of RAW keys.
 pub const RAW_PREFIX_SIZE: usize = 0;
 
 /// The prefix of RAW keys.
 pub const RAW_PREFIX: [u8; 0] = [];
 
 /// The prefix of what `key` makes: 01 and the id in four big-endian bytes for TINK, 00 and the id for LEGACY and
-/// CRUNCHY, nothing for RAW. `UnknownPrefix` comes exactly where the prefix type is none of these.
+/// CRUNCHY, nothing for RAW.
+///
+/// # Errors
+/// `UnknownPrefix` exactly if the prefix type is none of these, or `OutOfMemory`.
 pub fn output_prefix(alloc: Global, key: &Key) -> Result<Bytes, TinkError>
     ensures answer { Answers result (told_prefix key.now) }
 {

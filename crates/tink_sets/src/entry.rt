@@ -14,16 +14,24 @@ use tink_proto::{Bytes, Key, KeyStatusType, OutputPrefixType};
 /// A primitive of a set, with what its key says of it.
 #[derive(Drop)]
 pub struct Entry<K: Kinds> {
+    /// The id of the key.
     pub key_id: KeyId,
+    /// The primitive of the key.
     pub primitive: Primitive<K>,
-    /// What stands before what the key makes.
+    /// The output prefix of the key.
     pub prefix: Bytes,
+    /// The output prefix type of the key.
     pub prefix_type: OutputPrefixType,
+    /// The status of the key.
     pub status: KeyStatusType,
 }
 
 impl<K: Kinds> Entry<K> {
-    /// The entry of a key and its primitive: `NotEnabled`, then `UnknownPrefix`.
+    /// The entry of a key and its primitive.
+    ///
+    /// # Errors
+    /// `NotEnabled` if the key is not enabled, then `UnknownPrefix` if its prefix type is none that is known.
+    /// `OutOfMemory`.
     pub fn new(alloc: Global, p: Primitive<K>, key: &Key) -> Result<Self, TinkError>
         ensures value { IfOk result (λ e. e ≡ entry_of p key.now) }
         ensures stands { OnOk result (may_stand key.now ≡ Ok tt) }
@@ -39,11 +47,15 @@ impl<K: Kinds> Entry<K> {
 /// A primitive of a set of one sort, with what its key says of it.
 #[derive(Drop)]
 pub struct TypedEntry<P> {
+    /// The id of the key.
     pub key_id: KeyId,
+    /// The primitive of the key.
     pub primitive: P,
-    /// What stands before what the key makes.
+    /// The output prefix of the key.
     pub prefix: Bytes,
+    /// The output prefix type of the key.
     pub prefix_type: OutputPrefixType,
+    /// The status of the key.
     pub status: KeyStatusType,
 }
 

@@ -57,8 +57,11 @@ impl<K: Kinds> PrimitiveSet<K> {
         group_of(&self.entries, prefix)
     }
 
-    /// Adds the entry of a key and its primitive behind those of its prefix, and lends it: `NotEnabled`, then
-    /// `UnknownPrefix`. After a refusal the set is as before.
+    /// Adds the entry of a key and its primitive behind those of its prefix, and lends it.
+    ///
+    /// # Errors
+    /// `NotEnabled` if the key is not enabled, then `UnknownPrefix` if its prefix type is none that is known.
+    /// `OutOfMemory`. The set is then as before.
     pub fn add(&mut self, alloc: Global, p: Primitive<K>, key: &Key) -> Result<&Entry<K>, TinkError>
         ensures entry { IfOk result (λ entry. entry.now ≡ entry_of p key.now) }
         ensures stands { OnOk result (may_stand key.now ≡ Ok tt) }
@@ -75,6 +78,9 @@ impl<K: Kinds> PrimitiveSet<K> {
     }
 
     /// Adds the entry of a key and its primitive as `add` does, and lends nothing.
+    ///
+    /// # Errors
+    /// As `add`.
     pub fn put(&mut self, alloc: Global, p: Primitive<K>, key: &Key) -> Result<(), TinkError>
         ensures answer { Answers result (may_stand key.now) }
         ensures ok { OnOk result (Adds (own_prefix key.now) (entry_of p key.now) self.old.entries self.new.entries) }
@@ -104,6 +110,9 @@ impl<K: Kinds> PrimitiveSet<K> {
     }
 
     /// A set with the same primary entry and the same entries under each prefix.
+    ///
+    /// # Errors
+    /// `OutOfMemory` alone.
     pub fn try_clone(&self, alloc: Global) -> Result<Self, TinkError>
         ensures primary { IfOk result (λ copy. copy.primary ≡ self.now.primary) }
         ensures entries { IfOk result (λ copy. HaveSameGroups self.now.entries copy.entries) }

@@ -24,7 +24,10 @@ pub trait Sort<K: Kinds> {
     // A primitive as one of the sort.
     ghost picks: { Primitive K K.Aead K.DeterministicAead K.HybridDecrypt K.HybridEncrypt K.Mac K.Prf K.Signer K.StreamingAead K.Verifier → Result Self.Of Kind };
 
-    /// The primitive as one of the sort, or `WrongPrimitive` exactly where it is of another.
+    /// The primitive as one of the sort.
+    ///
+    /// # Errors
+    /// `WrongPrimitive` exactly if it is of another sort.
     fn pick(p: Primitive<K>) -> Result<Self::Of, TinkError>
         ensures value { Tells result (picks p) };
 

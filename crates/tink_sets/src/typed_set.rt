@@ -47,7 +47,10 @@ impl<P> TypedPrimitiveSet<P> {
         group_at(&self.entries, prefix)
     }
 
-    /// The set as one of the sort `S`, or `WrongPrimitive` exactly where an entry or the primary is of another sort.
+    /// The set as one of the sort `S`.
+    ///
+    /// # Errors
+    /// `WrongPrimitive` exactly if an entry or the primary entry is of another sort, or `OutOfMemory`.
     pub fn from_set_of_sort<K: Kinds, S: Sort<K, Of = P>>(
         alloc: Global,
         set: &PrimitiveSet<K>,
@@ -61,7 +64,10 @@ impl<P> TypedPrimitiveSet<P> {
         from_set::<K, S>(alloc, set)
     }
 
-    /// The set as one of AEADs, or `WrongPrimitive` exactly where an entry or the primary is of another sort.
+    /// The set as one of AEADs.
+    ///
+    /// # Errors
+    /// `WrongPrimitive` exactly if an entry or the primary entry is of another sort, or `OutOfMemory`.
     pub fn from_set_aead<K: Kinds<Aead = P>>(
         alloc: Global,
         set: PrimitiveSet<K>,
@@ -75,8 +81,10 @@ impl<P> TypedPrimitiveSet<P> {
         from_owned::<K, Aeads>(alloc, set)
     }
 
-    /// The set as one of deterministic AEADs, or `WrongPrimitive` exactly where an entry or the primary is of another
-    /// sort.
+    /// The set as one of deterministic AEADs.
+    ///
+    /// # Errors
+    /// `WrongPrimitive` exactly if an entry or the primary entry is of another sort, or `OutOfMemory`.
     pub fn from_set_deterministic_aead<K: Kinds<DeterministicAead = P>>(
         alloc: Global,
         set: PrimitiveSet<K>,
@@ -90,8 +98,10 @@ impl<P> TypedPrimitiveSet<P> {
         from_owned::<K, DeterministicAeads>(alloc, set)
     }
 
-    /// The set as one of hybrid decryptions, or `WrongPrimitive` exactly where an entry or the primary is of another
-    /// sort.
+    /// The set as one of hybrid decryptions.
+    ///
+    /// # Errors
+    /// `WrongPrimitive` exactly if an entry or the primary entry is of another sort, or `OutOfMemory`.
     pub fn from_set_hybrid_decrypt<K: Kinds<HybridDecrypt = P>>(
         alloc: Global,
         set: PrimitiveSet<K>,
@@ -105,8 +115,10 @@ impl<P> TypedPrimitiveSet<P> {
         from_owned::<K, HybridDecrypters>(alloc, set)
     }
 
-    /// The set as one of hybrid encryptions, or `WrongPrimitive` exactly where an entry or the primary is of another
-    /// sort.
+    /// The set as one of hybrid encryptions.
+    ///
+    /// # Errors
+    /// `WrongPrimitive` exactly if an entry or the primary entry is of another sort, or `OutOfMemory`.
     pub fn from_set_hybrid_encrypt<K: Kinds<HybridEncrypt = P>>(
         alloc: Global,
         set: PrimitiveSet<K>,
@@ -120,7 +132,10 @@ impl<P> TypedPrimitiveSet<P> {
         from_owned::<K, HybridEncrypters>(alloc, set)
     }
 
-    /// The set as one of MACs, or `WrongPrimitive` exactly where an entry or the primary is of another sort.
+    /// The set as one of MACs.
+    ///
+    /// # Errors
+    /// `WrongPrimitive` exactly if an entry or the primary entry is of another sort, or `OutOfMemory`.
     pub fn from_set_mac<K: Kinds<Mac = P>>(
         alloc: Global,
         set: PrimitiveSet<K>,
@@ -134,8 +149,10 @@ impl<P> TypedPrimitiveSet<P> {
         from_owned::<K, Macs>(alloc, set)
     }
 
-    /// The set as one of pseudorandom functions, or `WrongPrimitive` exactly where an entry or the primary is of another
-    /// sort.
+    /// The set as one of pseudorandom functions.
+    ///
+    /// # Errors
+    /// `WrongPrimitive` exactly if an entry or the primary entry is of another sort, or `OutOfMemory`.
     pub fn from_set_prf<K: Kinds<Prf = P>>(
         alloc: Global,
         set: PrimitiveSet<K>,
@@ -149,7 +166,10 @@ impl<P> TypedPrimitiveSet<P> {
         from_owned::<K, Prfs>(alloc, set)
     }
 
-    /// The set as one of signers, or `WrongPrimitive` exactly where an entry or the primary is of another sort.
+    /// The set as one of signers.
+    ///
+    /// # Errors
+    /// `WrongPrimitive` exactly if an entry or the primary entry is of another sort, or `OutOfMemory`.
     pub fn from_set_signer<K: Kinds<Signer = P>>(
         alloc: Global,
         set: PrimitiveSet<K>,
@@ -163,7 +183,10 @@ impl<P> TypedPrimitiveSet<P> {
         from_owned::<K, Signers>(alloc, set)
     }
 
-    /// The set as one of streaming AEADs, or `WrongPrimitive` exactly where an entry or the primary is of another sort.
+    /// The set as one of streaming AEADs.
+    ///
+    /// # Errors
+    /// `WrongPrimitive` exactly if an entry or the primary entry is of another sort, or `OutOfMemory`.
     pub fn from_set_streaming_aead<K: Kinds<StreamingAead = P>>(
         alloc: Global,
         set: PrimitiveSet<K>,
@@ -177,7 +200,10 @@ impl<P> TypedPrimitiveSet<P> {
         from_owned::<K, StreamingAeads>(alloc, set)
     }
 
-    /// The set as one of verifiers, or `WrongPrimitive` exactly where an entry or the primary is of another sort.
+    /// The set as one of verifiers.
+    ///
+    /// # Errors
+    /// `WrongPrimitive` exactly if an entry or the primary entry is of another sort, or `OutOfMemory`.
     pub fn from_set_verifier<K: Kinds<Verifier = P>>(
         alloc: Global,
         set: PrimitiveSet<K>,
@@ -194,6 +220,9 @@ impl<P> TypedPrimitiveSet<P> {
 
 impl<P: CloneIn> TypedPrimitiveSet<P> {
     /// A set with the same primary entry and the same entries under each prefix.
+    ///
+    /// # Errors
+    /// `OutOfMemory` alone.
     pub fn try_clone(&self, alloc: Global) -> Result<Self, TinkError>
         ensures primary { IfOk result (λ copy. copy.primary ≡ self.now.primary) }
         ensures entries { IfOk result (λ copy. HaveSameGroups self.now.entries copy.entries) }

@@ -20,11 +20,14 @@ use tink_streaming_ciphers::StreamSegment;
 use tink_streaming_io::TextReader;
 use tink_streaming_keys::{StreamKind, Trial, start};
 
-// The keys of which one may open the stream, with its associated data and memory for the choice.
+/// The keys that may decrypt the stream, its associated data, and the memory for choosing one.
 #[derive(Drop)]
 pub struct Choice {
+    /// The keys, those of one prefix in their order.
     pub keys: Vec<TypedEntry<StreamKind>>,
+    /// The associated data.
     pub data: Vec<u8>,
+    /// The memory for the choice.
     pub trial: Trial,
     ghost unread: { trial.kept.filled ≡ 0 },
     ghost room: { HasRoomForEach key_in_set keys.items (vec_len trial.kept.buffer) (vec_capacity trial.opened)
@@ -32,11 +35,14 @@ pub struct Choice {
     ghost memory: { trial_memory trial ≡ memory_for (vec_len trial.kept.buffer) },
 }
 
-// How far a reader has come.
+/// The stage of a reader: before the first read, with a chosen key, or after an error.
 #[derive(Drop)]
 pub enum Stage {
+    /// Nothing was read yet.
     Unread(Choice),
+    /// A key was chosen.
     Chosen(TextReader<StreamSegment>),
+    /// Choosing a key failed, by this cause.
     Stopped(Cause),
 }
 
@@ -126,15 +132,15 @@ impl<S: Source + Drop> DecryptReader<S> {
     }
 
     /// Gives the next bytes of the text, as many as are opened and `buf` has room for, and answers how many. The first
-    /// read to a buffer with room chooses the key, the first under which the stream begins: the source begins in its
-    /// front, and the first segment is that of some text. Then each read is that of the key's `Reader`, which takes no
-    /// more of the source than the next chunk and a byte behind it. The first read takes no more than has room, whatever
-    /// it answers, and no more than the longest front and a byte where the stream begins in a front of none of the keys.
-    /// It keeps no more memory than it has.
+    /// read to a buffer that is not empty chooses the key: the first under which the stream begins. The source begins
+    /// in the key's front, and the first segment is that of some text. Then each read is that of the key's `Reader`,
+    /// which takes no more of the source than the next chunk and a byte behind it. Whatever it answers, the first read
+    /// takes no more than has room. If the stream begins in a front of none of the keys, it takes no more than the
+    /// longest front and a byte. It keeps no more memory than it has.
     ///
     /// # Errors
-    /// `NoMatchingKey` where the stream begins under none of the keys; `ReadFault` where the source failed; those of
-    /// `Reader::read` behind the first segment; `FailedBefore` after another of these.
+    /// `NoMatchingKey` if the stream begins under none of the keys. `ReadFault` if the source failed. Those of
+    /// `Reader::read` behind the first segment. `FailedBefore` after another of these.
     pub fn read(&mut self, buf: &mut [u8]) -> Result<usize, TinkError>
         ensures answer { DecryptMeans S.left S.faults self.old self.new buf.old buf.new result }
         ensures within { IfOk result (λ n. n ≤ length buf.new) }
@@ -195,7 +201,8 @@ impl<S: Source + Drop> DecryptReader<S> {
         }
     }
 
-    /// The source, as the last call left it. What is held, or opened and not given, is dropped.
+    /// The source, as the last call left it. Bytes that are held, and text that was not given yet, are
+    /// dropped.
     pub fn into_inner(self) -> S
         ensures { result ≡ source_in self }
     {

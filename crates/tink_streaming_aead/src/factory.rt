@@ -28,9 +28,9 @@ use tink_streaming_ciphers::{AES_CTR_HMAC_NONCE_SIZE_IN_BYTES, StreamSegment};
 use tink_streaming_io::Writer;
 use tink_streaming_keys::{DerivesStreams, StreamKind, Trial, new_encrypting_writer};
 
-/// The streaming AEADs of a keyset as one: streams are made by the primary key, and opened by the first of the keys under
-/// which they begin. A contract sees the primary key, which there is, and all keys, those of one prefix in their order;
-/// each has its output prefix before the header of its streams.
+/// The streaming AEADs of a keyset as one. The primary key encrypts streams, and the first of the keys under which
+/// they begin decrypts them. A contract sees the primary key, which there is, and all keys, those of one prefix in
+/// their order. Each has its output prefix before the header of its streams.
 #[derive(Drop)]
 pub struct WrappedStreamingAead {
     ps: TypedPrimitiveSet<StreamKind>,
@@ -152,7 +152,10 @@ pub fn room_of<T: DerivesStreams>(keys: &[T]) -> usize
     room
 }
 
-// What is needed to choose one of the keys of some entries.
+/// Copies of the entries' keys and of the associated data, and the memory for choosing a key.
+///
+/// # Errors
+/// `OutOfMemory` alone.
 pub fn choice_of(
     alloc: Global,
     entries: &[&TypedEntry<StreamKind>],
@@ -203,9 +206,9 @@ impl WrappedStreamingAead {
     ///
     /// # Errors
     /// The refusal hands back `w`. `OutOfMemory`, with nothing drawn or written; then the first that applies:
-    /// `RandomFault` exactly where fewer draws are left than a salt and seven bytes, none of which is taken;
-    /// `UnknownHash` exactly where HKDF's hash is unknown, and `UnsupportedHash` exactly where it is SHA-224, with
-    /// the draws taken and nothing written; `WriteFault` where the sink failed, which has a prefix of the front.
+    /// `RandomFault` exactly if fewer draws are left than a salt and seven bytes: none is taken. `UnknownHash`
+    /// exactly if HKDF's hash is unknown, and `UnsupportedHash` exactly if it is SHA-224, with the draws taken and
+    /// nothing written. `WriteFault` if the sink failed: it has a prefix of the front.
     pub fn new_encrypting_writer<K: Sink + Drop>(
         &self,
         alloc: Global,
@@ -221,9 +224,9 @@ impl WrappedStreamingAead {
         }
     }
 
-    /// A reader of the stream in `r` by all keys, those of one prefix in their order, of which it has copies. Nothing is
-    /// read, and all memory is taken: a byte more than the largest of their segments with the output prefix before it
-    /// may be kept, which is at most six bytes more than the largest segment.
+    /// A reader of the stream in `r` by all keys, those of one prefix in their order. It has copies of the keys.
+    /// Nothing is read, and all memory is taken. It may keep a byte more than the largest of their segments with its
+    /// output prefix: at most six bytes more than the largest segment.
     ///
     /// # Errors
     /// `OutOfMemory`, which hands back `r`.

@@ -19,9 +19,9 @@ ghost use Rattle.tink_streaming_aead.specs.WholeReading.{IsTextOfChosen, IsTextO
 
 use tink_io::Source;
 
-/// A new writer that is given a text, however the text is cut into writes, and is closed has written exactly the
-/// stream of the text: the front under the first draws, and then a segment for each chunk, the last one marked. One
-/// that is closed before any write has written the stream of the empty text.
+/// A new writer gets a text, cut into writes in any way, and is closed. It has then written exactly the stream of
+/// the text. That is the front under the first draws, and a segment for each chunk, the last one marked. One that
+/// is closed before any write has written the stream of the empty text.
 pub fn law_whole_stream()
     ensures whole { (k : StreamKey) (aad draws left : List ℕ) (before : Option (List ℕ))
         (seg : ℕ → Bool → List ℕ → List ℕ) (first later : ℕ) (m n o : WriterMoment) (text : List ℕ)
@@ -33,8 +33,8 @@ pub fn law_whole_stream()
         → Appends before o.got (stream k aad (salt_of k draws) (prefix_of k draws) []) }
 {}
 
-/// The first read of a keyset's reader that is Ok has chosen the first key under which the stream begins, and has
-/// given the prefix of the text of the key's segments behind the front. Later reads go on from there, as
+/// The first read of a keyset's reader that is Ok chooses the first key under which the stream begins. It gives
+/// the prefix of the text of the key's segments behind the front. Later reads go on from there, as
 /// `law_whole_text` says.
 pub fn law_first_read()
     ensures gave { (keys : List OpeningKey) (all : Option (List ℕ)) (seg : ℕ → Bool → List ℕ → List ℕ)
@@ -43,8 +43,8 @@ pub fn law_first_read()
         → Gave seg first size begins.rest (take n after) new }
 {}
 
-/// A keyset's reader of a stream, from a source that tells its bytes, is that of the key that is chosen for it,
-/// whatever other keys were tried and however large their segments are.
+/// If the bytes of a source are known, a keyset's reader of it is that of the chosen key. It does not matter
+/// which other keys were tried and how large their segments are.
 pub fn law_one_key<S: Source>()
     // What the first read says of the keys, it says of the chosen key alone.
     ensures alone { ReadsAsAlone S.left S.faults }
@@ -57,17 +57,17 @@ pub fn law_one_key<S: Source>()
     ensures reader { ReadsAsReader }
 {}
 
-/// Of the keys of a keyset's streaming AEADs the one that is chosen for a stream is the first in the order of the keyset
-/// under which the stream begins, though they are tried prefix by prefix. That they have output prefixes is a clause of
-/// `new`, and that they are usable one of `new_decrypting_reader`.
+/// Keys are tried prefix by prefix. The chosen key is still the first in the order of the keyset under which the
+/// stream begins. That they have output prefixes is a clause of `new`, and that they are usable one of
+/// `new_decrypting_reader`.
 #[tactic(auto, using(crate::proofs::WrappedFacts::chooses_in_order))]
 pub fn law_keyset_order()
     ensures { ChoosesInOrder }
 {}
 
-/// What reads up to the end have given: of a key's reader, the whole source was a stream of the key without an output
-/// prefix; of a keyset's reader, it was a stream of the first of the keys under which it begins. What was given is the
-/// texts of the stream, joined.
+/// If a key's reader reads up to the end, the whole source was a stream of the key without an output prefix. If a
+/// keyset's reader does, it was a stream of the first of the keys under which it begins. What was given is the texts
+/// of the stream, joined.
 pub fn law_whole_reading()
     ensures key { (k : StreamKey) (aad : List ℕ) (all : Option (List ℕ)) (seg : ℕ → Bool → List ℕ → List ℕ)
         (first size overhead : ℕ) (held given : List ℕ) (m n : reading.TextMoment)
@@ -80,10 +80,9 @@ pub fn law_whole_reading()
         → Gave seg first size begins.rest given n → AtEnd n → IsTextOfChosen (map (opening_key aad) keys) all given }
 {}
 
-/// A stream that was sealed with a key opens to its text: it is a stream of the key with the chunks of the text,
-/// which make the text when they are joined; a stream has one list of texts, and so what was read of a sealed stream
-/// up to its end is the text that was sealed; and of some keys this one is chosen where none before it begins the
-/// stream.
+/// A stream that was sealed with a key opens to its text. It is a stream of the key with the chunks of the text, and
+/// these joined are the text. A stream has one list of texts, so what was read of a sealed stream up to its end is
+/// the text that was sealed. If the stream begins under no key before this one, this one is chosen.
 pub fn law_sealed_opens()
     ensures stream { (k : StreamKey) (aad salt prefix keys text : List ℕ) → IsUsable k
         → length salt ≡ k.derived → length prefix ≡ 7
@@ -108,8 +107,8 @@ pub fn law_sealed_opens()
         → given ≡ text }
 {}
 
-/// The key that is chosen of all keys of a keyset is the one that is chosen of its candidates alone: a prefix begins with
-/// 0 or 1 and a header with 24 or 40, so that a key opens streams of its own prefix alone.
+/// The key that is chosen of all keys of a keyset is the one that is chosen of its candidates alone. A prefix begins
+/// with 0 or 1 and a header with 24 or 40, so a key opens streams of its own prefix alone.
 pub fn law_candidates()
     ensures { ChoosesCandidate }
 {}

@@ -27,7 +27,10 @@ impl AesVariant {
     }
 }
 
-/// The variant whose keys have so many bytes. `BadKeySize` exactly where it isn't 16 or 32.
+/// The variant of AES whose keys have this size in bytes.
+///
+/// # Errors
+/// `BadKeySize` exactly if the size is neither 16 nor 32.
 pub fn validate_aes_key_size(size_in_bytes: usize) -> Result<AesVariant, TinkError>
     ensures ok { IsOk result ↔ ((size_in_bytes ≡ 16) ⊎ (size_in_bytes ≡ 32)) }
     ensures value { IfOk result (λ variant. key_size variant ≡ size_in_bytes) }

@@ -21,8 +21,8 @@ pub const AES_CTR_HMAC_KEY_SIZE_IN_BYTES: usize = 32;
 // The bytes of the largest tag.
 const MAX_TAG: usize = 64;
 
-/// Segments in counter mode, with the first bytes of an HMAC over nonce and ciphertext behind the
-/// ciphertext.
+/// Segments in AES counter mode (SP 800-38A, section 6.5). Behind the ciphertext are the first bytes of an
+/// HMAC (FIPS 198-1) over nonce and ciphertext.
 ///
 /// A contract sees the two keys, the hash and the tag's bytes.
 #[derive(Drop)]
@@ -56,8 +56,8 @@ impl Model for CtrHmacSegment {
 }
 
 impl CtrHmacSegment {
-    /// Segments under an AES key of 16 or 32 bytes and an HMAC key of 32, with tags of `tag_size`
-    /// bytes: ten at least and a digest of `tag_hash` at most.
+    /// Segments under an AES key of 16 or 32 bytes and an HMAC key of 32. Tags have `tag_size` bytes: ten at
+    /// least and a digest of `tag_hash` at most.
     pub fn new(aes_key: &[u8], hmac_key: &[u8], tag_hash: Hash, tag_size: usize) -> CtrHmacSegment
         requires aes_key { (length aes_key.now ≡ 16) ⊎ (length aes_key.now ≡ 32) }
         requires hmac_key { length hmac_key.now ≡ 32 }

@@ -11,15 +11,17 @@ use cipher_stream::StreamCipherCore;
 use ctr::CtrCore;
 use ctr::flavors::Ctr64BE;
 
-// AES under a key of 16 or of 32 bytes.
+/// AES (FIPS 197) under a key of 16 or 32 bytes.
 #[derive(Drop)]
 pub enum SegmentCipher {
+    /// With a key of 16 bytes.
     Small(Aes128),
+    /// With a key of 32 bytes.
     Large(Aes256),
 }
 
 impl SegmentCipher {
-    // The cipher under a key of 16 or 32 bytes.
+    /// The cipher under a key of 16 or 32 bytes.
     pub fn new(key: &[u8]) -> SegmentCipher
         requires { (length key.now ≡ 16) ⊎ (length key.now ≡ 32) }
         ensures key { cipher_key result ≡ key.now }
@@ -31,7 +33,8 @@ impl SegmentCipher {
         }
     }
 
-    // Applies counter mode from `nonce` on to bytes in their place; twice gives them back.
+    /// Applies counter mode (SP 800-38A, section 6.5) from the block `nonce` on to bytes in their place. A second call
+    /// undoes the first.
     pub fn apply_in_place(&self, nonce: &[u8; 16], bytes: &mut [u8])
         requires { FitsCipher self.now }
         ensures { bytes.new ≡ ctr (aes (cipher_key self.now)) (plus_be w64) nonce.now bytes.old }

@@ -12,7 +12,9 @@ use tink_streaming_segment::{SegmentDecrypter, SegmentEncrypter};
 /// A contract sees the case, with what it sees of the cipher in it.
 #[derive(Drop)]
 pub enum StreamSegment {
+    /// AES in counter mode with HMAC.
     CtrHmac(CtrHmacSegment),
+    /// AES-GCM.
     Gcm(GcmSegment),
 }
 

@@ -8,8 +8,11 @@ use tink_streaming_segment::zeros;
 /// The memory of a reader: a text, a segment and a nonce.
 #[derive(Drop)]
 pub struct Buffers {
+    /// The text of a segment.
     pub text: Vec<u8>,
+    /// A segment, and a byte behind it.
     pub sealed: Vec<u8>,
+    /// A nonce.
     pub nonce: Vec<u8>,
 }
 
@@ -39,7 +42,9 @@ impl Buffers {
 /// The memory of a writer: a segment, in whose place its text is held, and a nonce.
 #[derive(Drop)]
 pub struct WriterBuffers {
+    /// A segment, in whose place its text is held.
     pub segment: Vec<u8>,
+    /// A nonce.
     pub nonce: Vec<u8>,
 }
 

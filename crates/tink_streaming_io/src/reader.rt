@@ -11,16 +11,21 @@ use tink_io::{Source, TinkError};
 use tink_primitives::DecryptingRead;
 use tink_streaming_segment::{Opener, SegmentDecrypter, check_sizes};
 
-/// What a reader is made of: a source, the one-shot map of its segments, the size of a nonce and the
-/// prefix of all nonces, the size of a segment, and how many bytes of the first one are taken by
-/// what stands before it. Sizes are in bytes.
+/// The parts of a reader. They are a source, the one-shot map of its segments, the size and prefix of nonces,
+/// a segment's size, and the offset of the first. Sizes are in bytes.
 #[derive(Drop)]
 pub struct ReaderParams<R, D: SegmentDecrypter> {
+    /// The source.
     pub r: R,
+    /// The one-shot map of a segment.
     pub segment_decrypter: D,
+    /// The bytes of a nonce, five more at least than its prefix.
     pub nonce_size: usize,
+    /// The prefix of all nonces.
     pub nonce_prefix: Vec<u8>,
+    /// The bytes of a segment.
     pub ciphertext_segment_size: u32,
+    /// The bytes that the first segment is shorter.
     pub first_ciphertext_segment_offset: u32,
 }
 
@@ -54,8 +59,8 @@ impl<R: Source + Drop, D: SegmentDecrypter + Drop> Reader<R, D> {
     /// nonce's size, where it is not too short, is that of the decrypter.
     ///
     /// # Errors
-    /// NonceTooShort where a nonce has not five bytes more than its prefix, OffsetTooBig where the
-    /// offset is beyond the segment, SegmentTooSmall where the first segment has no room for text.
+    /// `NonceTooShort` if a nonce has not five bytes more than its prefix. `OffsetTooBig` if the offset is
+    /// beyond the segment. `SegmentTooSmall` if the first segment has no room for text.
     pub fn new(params: ReaderParams<R, D>, buffers: Buffers) -> Result<Reader<R, D>, TinkError>
         requires text { buffers.text.items ≡ [] }
         requires text_room { params.ciphertext_segment_size < vec_capacity buffers.text }
@@ -134,14 +139,14 @@ impl<R: Source + Drop, D: SegmentDecrypter + Drop> Reader<R, D> {
     }
 
     /// Gives the next bytes of the text, as many as are opened and `buf` has room for, and answers
-    /// how many. Where no opened text is left, the next segment is opened first, for which no more is
-    /// read than its chunk and a byte behind it. `Ok(0)` comes on an empty buffer, which reads nothing,
-    /// and at the end, for good. It keeps the memory that it has.
+    /// how many. If no opened text is left, the next segment is opened first. For it no more is read than its
+    /// chunk and a byte behind it. `Ok(0)` comes on an empty buffer, which reads nothing, and at the end, for
+    /// good. It keeps the memory that it has.
     ///
     /// # Errors
-    /// ReadFault where the source failed, TooManySegments where bytes follow the segment of number
-    /// 2^32 - 1, Truncated where fewer bytes are left than the overhead, BadSegment where the next
-    /// chunk is the segment of no text, FailedBefore after another of these.
+    /// `ReadFault` if the source failed. `TooManySegments` if bytes follow the segment of number 2^32 - 1.
+    /// `Truncated` if fewer bytes are left than the overhead. `BadSegment` if the next chunk is the segment
+    /// of no text. `FailedBefore` after another of these.
     pub fn read(&mut self, buf: &mut [u8]) -> Result<usize, TinkError>
         ensures answer { ReadMeans (seg_of D.seg self.old.opening) self.old.opening.first self.old.opening.size
             self.old.opening.overhead
@@ -169,7 +174,8 @@ impl<R: Source + Drop, D: SegmentDecrypter + Drop> Reader<R, D> {
         self.text.reader.segments()
     }
 
-    /// The source, as the last call left it. What is held, or opened and not given, is dropped.
+    /// The source, as the last call left it. Bytes that are held, and text that was not given yet, are
+    /// dropped.
     pub fn into_inner(self) -> R
         ensures { result ≡ self.source }
     {

@@ -15,12 +15,19 @@ use tink_streaming_segment::{Opener, SegmentDecrypter, carry, hold, open_front, 
 /// So more bytes than a chunk may be held.
 #[derive(Drop)]
 pub struct SegmentReader<D: SegmentDecrypter> {
+    /// How the segments are opened.
     pub opener: Opener<D>,
+    /// The progress of the reader.
     pub progress: Progress,
+    /// The number of segments opened so far.
     pub segments: u64,
+    /// The memory of the bytes that are held.
     pub buffer: Vec<u8>,
+    /// The number of bytes that are held: the first ones of `buffer`.
     pub filled: usize,
+    /// The text of the segment that was opened last.
     pub opened: Vec<u8>,
+    /// The memory of a nonce.
     pub nonce: Vec<u8>,
     ghost buffer_fits: { opener.size < vec_len buffer },
     ghost reserved: { opener.size ≤ vec_capacity opened },
@@ -77,10 +84,10 @@ impl<D: SegmentDecrypter + Drop> SegmentReader<D> {
     /// Opens the next segment. Its text is `opened`, and after the last one the reader has ended.
     ///
     /// # Errors
-    /// ReadFault where the source failed, TooManySegments where bytes follow the segment of number
-    /// 2^32 - 1, Truncated where fewer bytes are left than the overhead, BadSegment where the next
-    /// chunk is the segment of no text. The reader has then failed, and has opened nothing. It holds what was read: at
-    /// most the next chunk and one byte, and by ReadFault at most the next chunk.
+    /// `ReadFault` if the source failed. `TooManySegments` if bytes follow the segment of number 2^32 - 1. `Truncated`
+    /// if fewer bytes are left than the overhead. `BadSegment` if the next chunk is the segment of no text. The reader
+    /// has then failed, and has opened nothing. It holds what was read: at most the next chunk and one byte, and by
+    /// ReadFault at most the next chunk.
     pub fn open_next<S: Source>(&mut self, source: &mut S) -> Result<(), TinkError>
         requires running { self.old.progress ≡ Running }
         ensures answer { OpenNextMeans (segment_map self.old.opener) self.old.opener.first self.old.opener.size
@@ -141,7 +148,7 @@ impl<D: SegmentDecrypter + Drop> SegmentReader<D> {
         &self.opened
     }
 
-    /// How far the reader has come.
+    /// The progress of the reader.
     pub fn progress(&self) -> Progress
         ensures { result ≡ self.now.progress }
     {

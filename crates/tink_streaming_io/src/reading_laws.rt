@@ -26,10 +26,10 @@ pub fn law_empty_buffer()
         → HasNotFailed old.progress → ReadMeans seg first size overhead old new [] after r → (r ≡ Ok 0) × (new ≡ old) }
 {}
 
-/// Reads from a new reader on, to buffers of any lengths, have at the end given exactly the text of the stream: all
-/// chunks are the segments of some texts, and what was given is these texts joined; where a segment is longer than its
-/// text by the overhead, all bytes are their segments in order. Where no text agrees with what is left, it is the
-/// longest list of texts that agrees with the chunks, joined.
+/// If reads from a new reader on, to buffers of any lengths, reach the end, they have given exactly the text of the
+/// stream. All chunks are the segments of some texts, and what was given is these texts joined. If a segment is longer
+/// than its text by the overhead, all bytes are their segments in order. If no text agrees with the bytes left, it is
+/// the longest list of texts that agrees with the chunks, joined.
 pub fn law_whole_text()
     ensures fresh { (seg : ℕ → Bool → List ℕ → List ℕ) (first size : ℕ) (m : TextMoment) → m.number ≡ 0 → m.pending ≡ []
         → Gave seg first size m.rest [] m }

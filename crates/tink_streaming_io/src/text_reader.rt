@@ -61,10 +61,10 @@ impl<D: SegmentDecrypter + Drop> TextReader<D> {
         }
     }
 
-    /// Gives the next bytes of the text, as many as are opened and `buf` has room for, and answers how many. Where no
-    /// opened text is left, the next segment is opened first, for which no more is read than its chunk and a byte behind
-    /// it. `Ok(0)` comes on an empty buffer, which reads nothing, and at the end, for good. The reader keeps the memory
-    /// that it has.
+    /// Gives the next bytes of the text, as many as are opened and `buf` has room for, and answers how many. If no
+    /// opened text is left, the next segment is opened first. For it no more is read than its chunk and a byte behind
+    /// it. `Ok(0)` comes on an empty buffer, which reads nothing, and at the end, for good. The reader keeps the
+    /// memory that it has.
     ///
     /// # Errors
     /// ReadFault, TooManySegments, BadSegment and Truncated where the next segment was not opened, as in

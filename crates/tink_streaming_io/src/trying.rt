@@ -18,7 +18,7 @@ pub trait OpensStreams<D: SegmentDecrypter> {
     // the bytes of its nonces
     ghost nonce_of: { Self → ℕ };
 
-    /// What stands before the header.
+    /// The output prefix, which is before the header.
     fn output_prefix(&self) -> &[u8]
         ensures is { result.now ≡ (opening_key self.now).out };
 
@@ -55,7 +55,9 @@ pub trait OpensStreams<D: SegmentDecrypter> {
 /// How a stream is opened that begins under a key, and the bytes of its front.
 #[derive(Drop)]
 pub struct Begun<D: SegmentDecrypter> {
+    /// How the segments are opened.
     pub opener: Opener<D>,
+    /// The bytes of the output prefix and the header.
     pub front: usize,
 }
 
@@ -100,8 +102,12 @@ fn begins_front<D: SegmentDecrypter, T: OpensStreams<D>>(key: &T, held: &[u8]) -
     held.starts_with(out) && usize::from(held[out.len()]) == length
 }
 
-/// How a stream that begins in `held` is opened, if it begins in a front of the key, which has so many bytes, and keys are
-/// derived from its header; else the memory of its prefix again.
+/// How a stream that begins with `held` is decrypted by a key, whose output prefix and header have `front` bytes
+/// together.
+///
+/// # Errors
+/// The memory of the prefix again. It comes if the stream does not begin with a front of the key, or no keys are
+/// derived from the front's header.
 pub fn front_opener<D: SegmentDecrypter + Drop, T: OpensStreams<D>>(
     key: &T,
     held: &[u8],
@@ -148,9 +154,10 @@ fn begun_if<D: SegmentDecrypter + Drop>(
     }
 }
 
-/// How the stream of a source is opened, if it begins in a front of the key and then in the segment of some text;
-/// else the memory of its prefix again. No more is read than tells it: a byte behind the front, and a byte behind the
-/// first segment only where keys are derived from the header of a front of the key. No text stands in `opened` then.
+/// How the stream of a source is opened, if it begins in a front of the key and then in the segment of some text.
+/// Else it is the memory of its prefix again, and `opened` has no text. It reads at most to a byte behind the
+/// front. If keys are derived from the header of a front of the key, it reads at most to a byte behind the first
+/// segment.
 ///
 /// # Errors
 /// Failed where the source failed. What was read is kept.

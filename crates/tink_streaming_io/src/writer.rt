@@ -22,7 +22,7 @@ pub struct WriterParams<W, E: SegmentEncrypter> {
     pub nonce_prefix: Vec<u8>,
     /// The size of a segment of ciphertext.
     pub ciphertext_segment_size: u32,
-    /// By how much the first segment is smaller, since a header stands before it.
+    /// The bytes that the first segment is shorter, since a header is before it.
     pub first_ciphertext_segment_offset: u32,
 }
 
@@ -54,8 +54,8 @@ impl<W: Sink + Drop, E: SegmentEncrypter + Drop> Writer<W, E> {
     /// nonce's size, where it is not too short, is that of the encrypter.
     ///
     /// # Errors
-    /// NonceTooShort where a nonce has not five bytes more than its prefix, OffsetTooBig where the
-    /// offset is beyond the segment, SegmentTooSmall where the first segment has no room for text.
+    /// `NonceTooShort` if a nonce has not five bytes more than its prefix. `OffsetTooBig` if the offset is
+    /// beyond the segment. `SegmentTooSmall` if the first segment has no room for text.
     pub fn new(
         params: WriterParams<W, E>,
         buffers: WriterBuffers,
@@ -148,7 +148,10 @@ impl<W: Sink + Drop, E: SegmentEncrypter + Drop> Writer<W, E> {
         self.inner.write(&mut self.sink, buf)
     }
 
-    /// Does nothing, and is always Ok: what is held is written before more text or by `close`.
+    /// Does nothing: the text that is held is written before more text or by `close`.
+    ///
+    /// # Errors
+    /// None: the answer is Ok.
     pub fn flush(&mut self) -> Result<(), TinkError>
         ensures answer { result ≡ Ok tt }
         ensures same { self.new ≡ self.old }
@@ -181,7 +184,7 @@ impl<W: Sink + Drop, E: SegmentEncrypter + Drop> Writer<W, E> {
         self.inner.segments()
     }
 
-    /// The sink, as the last call left it. What is held is dropped.
+    /// The sink, as the last call left it. The text that is held is dropped.
     pub fn into_inner(self) -> W
         ensures { result ≡ self.sink }
     {

@@ -12,8 +12,11 @@ const LAST_NUMBER: u64 = 4294967295;
 /// Whether a writer takes text.
 #[derive(Clone, Copy, Debug, PartialEq, Eq)]
 pub enum Mode {
+    /// It takes text.
     Open,
+    /// It was closed.
     Closed,
+    /// A call failed, by this cause.
     Failed(Cause),
 }
 
@@ -24,11 +27,17 @@ pub enum Mode {
 /// the last segment is marked.
 #[derive(Drop)]
 pub struct SegmentWriter<E: SegmentEncrypter> {
+    /// How the segments are made.
     pub sealer: Sealer<E>,
+    /// Whether it takes text.
     pub mode: Mode,
+    /// The number of segments written whole so far.
     pub segments: u64,
+    /// The memory of a segment, in whose place its text is held.
     pub segment: Vec<u8>,
+    /// The number of bytes of text that are held: the first ones of `segment`.
     pub filled: usize,
+    /// The memory of a nonce.
     pub nonce: Vec<u8>,
     ghost held_fits: { filled ≤ room_at sealer.first sealer.room segments },
     ghost segment_fits: { sealer.room + sealer.overhead ≤ vec_len segment },

@@ -15,23 +15,28 @@ use tink_streaming_ciphers::CtrHmacSegment;
 // The fewest bytes of a tag.
 const MIN_TAG_SIZE: usize = 10;
 
-/// A key of streams whose segments are in AES counter mode (SP 800-38A, section 6.5), each with the
-/// first bytes of an HMAC (FIPS 198-1) behind it. The AES key and the HMAC key of a stream are
-/// derived from the main key by HKDF (RFC 5869).
+/// A key of streams whose segments are in AES counter mode (SP 800-38A, section 6.5). Behind each are the
+/// first bytes of an HMAC (FIPS 198-1). The AES key and the HMAC key of a stream are derived from the main
+/// key by HKDF (RFC 5869).
 pub type AesCtrHmac = StreamingKey<CtrHmacSegment>;
 
 impl StreamingKey<CtrHmacSegment> {
-    /// A key from whose `main_key` an AES key of `key_size` bytes and an HMAC key of 32 are derived
-    /// for each stream, by HKDF with `hkdf_alg`. Tags have `tag_size` bytes of HMAC with `tag_alg`,
-    /// and segments `ciphertext_segment_size`. The first segment is shorter by
-    /// `first_segment_offset` and by the header, which has `key_size` + 8 bytes. A hash of HKDF
-    /// that is unknown, or SHA-224, is refused where keys are derived.
+    /// A key from whose `main_key` HKDF with `hkdf_alg` derives an AES key of `key_size` bytes and an HMAC
+    /// key of 32 for each stream. Tags have `tag_size` bytes of HMAC with `tag_alg`, and segments
+    /// `ciphertext_segment_size`. The first segment is shorter by `first_segment_offset` and by the header,
+    /// which has `key_size` + 8 bytes. A hash of HKDF that is unknown, or SHA-224, is refused where keys are
+    /// derived.
     ///
     /// # Errors
-    /// The first that applies: `BadKeySize` where the main key has fewer than 16 bytes or fewer than
-    /// `key_size`, or `key_size` is not 16 or 32; `BadTagSize` under 10 bytes; `UnknownHash` for an
-    /// unknown `tag_alg`; `BadTagSize` above its digest; `SegmentTooSmall` exactly where the segment
-    /// size is at most the sum of offset, header and tag. `OutOfMemory` may come in place of each.
+    /// The first that applies:
+    /// - `BadKeySize` if the main key has fewer than 16 bytes or fewer than `key_size`, or `key_size` is not
+    ///   16 or 32;
+    /// - `BadTagSize` under 10 bytes;
+    /// - `UnknownHash` for an unknown `tag_alg`;
+    /// - `BadTagSize` above its digest;
+    /// - `SegmentTooSmall` exactly if the segment size is at most the sum of offset, header and tag.
+    ///
+    /// `OutOfMemory` may come in place of each.
     pub fn new(
         alloc: Global,
         main_key: &[u8],

@@ -17,15 +17,14 @@ pub type AesGcmHkdf = StreamingKey<GcmSegment>;
 
 impl StreamingKey<GcmSegment> {
     /// A key from whose `main_key` an AES key of `key_size` bytes is derived for each stream, by
-    /// HKDF with `hkdf_alg`. Segments have `ciphertext_segment_size` bytes, of which 16 are a tag.
-    /// The first segment is shorter by `first_segment_offset` and by the header, which has
-    /// `key_size` + 8 bytes. A hash of HKDF that is unknown, or SHA-224, is refused where keys are
-    /// derived.
+    /// HKDF with `hkdf_alg`. Segments have `ciphertext_segment_size` bytes, and the last 16 of these are a
+    /// tag. The first segment is shorter by `first_segment_offset` and by the header, which has `key_size` +
+    /// 8 bytes. A hash of HKDF that is unknown, or SHA-224, is refused where keys are derived.
     ///
     /// # Errors
-    /// The first that applies: `BadKeySize` where the main key has fewer than 16 bytes or fewer than
-    /// `key_size`, or `key_size` is not 16 or 32; `SegmentTooSmall` exactly where the segment size is
-    /// at most the sum of offset, header and tag. `OutOfMemory` may come in place of each.
+    /// The first that applies: `BadKeySize` if the main key has fewer than 16 bytes or fewer than `key_size`,
+    /// or `key_size` is not 16 or 32. Then `SegmentTooSmall` exactly if the segment size is at most the sum
+    /// of offset, header and tag. `OutOfMemory` may come in place of each.
     pub fn new(
         alloc: Global,
         main_key: &[u8],

@@ -12,8 +12,12 @@ use crate::stream_params::DerivesStreams;
 use tink_streaming_ciphers::StreamSegment;
 use tink_streaming_io::{Opener, front_opener};
 
-/// How the segments of a stream that begins so are opened by a key, in the memory of a prefix, where it begins in a
-/// front of the key and keys are derived from its header; else that memory again.
+/// How a stream that begins with `held` is decrypted by a key with the associated data, in the memory of a nonce
+/// prefix.
+///
+/// # Errors
+/// That memory again. It comes if the stream does not begin with a front of the key, or no keys are derived from
+/// the front's header.
 pub fn opener_behind<T: DerivesStreams>(
     key: &T,
     held: &[u8],

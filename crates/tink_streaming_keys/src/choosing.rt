@@ -13,7 +13,7 @@ use tink_streaming_ciphers::StreamSegment;
 use tink_streaming_io::{Begun, Kept, try_key};
 
 /// How the stream of a source is opened: by the first key under which it begins with the associated
-/// data, or none. No text stands in `opened` then. Where the stream begins in a front of none of the keys no more is read
+/// data, or none. Then `opened` has no text. Where the stream begins in a front of none of the keys no more is read
 /// than the longest front and a byte.
 ///
 /// # Errors

@@ -14,12 +14,12 @@ use tink_streaming_ciphers::StreamSegment;
 /// What opens the segments of a stream, of either kind.
 pub type StreamDecrypter = StreamSegment;
 
-/// The cipher of the segments of a key's stream with this header, under the keys that HKDF derives with the header's
-/// salt and the associated data.
+/// The cipher of the segments of a key's stream with this header. HKDF derives its keys with the header's salt and
+/// the associated data.
 ///
 /// # Errors
-/// `NoMatchingKey` exactly where the bytes are no header of the key: they are more or fewer, or the first one is not
-/// their number; then `UnknownHash` exactly where HKDF's hash is unknown, and `UnsupportedHash` exactly where it is
+/// `NoMatchingKey` exactly if the bytes are no header of the key: they are more or fewer, or the first one is not
+/// their number. Then `UnknownHash` exactly if HKDF's hash is unknown, and `UnsupportedHash` exactly if it is
 /// SHA-224.
 pub fn decrypter_of<T: DerivesStreams>(
     key: &T,
@@ -44,8 +44,8 @@ impl StreamKind {
     /// The cipher of the segments of the key's stream with this header, as `decrypter_of` gives it.
     ///
     /// # Errors
-    /// `NoMatchingKey` exactly where the bytes are no header of the key; then `UnknownHash` exactly where HKDF's hash is
-    /// unknown, and `UnsupportedHash` exactly where it is SHA-224.
+    /// `NoMatchingKey` exactly if the bytes are no header of the key. Then `UnknownHash` exactly if HKDF's hash is
+    /// unknown, and `UnsupportedHash` exactly if it is SHA-224.
     pub fn decrypter(&self, header: &[u8], aad: &[u8]) -> Result<StreamDecrypter, TinkError>
         ensures answer { DecrypterMeans (key_of self.now) aad.now header.now result }
     {

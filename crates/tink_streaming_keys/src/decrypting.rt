@@ -45,7 +45,7 @@ fn read_header<T: DerivesStreams, S: Source>(
     Ok(header)
 }
 
-// How a key's segments under a header are opened.
+/// How the segments behind a header of a key are decrypted.
 pub fn opener_of<T: DerivesStreams>(
     key: &T,
     cipher: StreamSegment,
@@ -105,7 +105,12 @@ fn begin<T: DerivesStreams, S: Source>(
     Ok(SegmentReader::made(opener, memory.buffers, 0))
 }
 
-// A reader of the stream in `r`, whose header is read.
+/// A reader of the stream in `r`. It reads the output prefix and the header.
+///
+/// # Errors
+/// The error hands back the source. `OutOfMemory`, with the source as before. `ReadFault` if the source failed before
+/// the header's end. `NoMatchingKey` if it has no output prefix and header of the key. `UnknownHash` if HKDF's hash is
+/// unknown, `UnsupportedHash` if it is SHA-224: the header was read then.
 pub fn new_decrypting_reader<T: DerivesStreams, S: Source + Drop>(
     alloc: Global,
     key: &T,

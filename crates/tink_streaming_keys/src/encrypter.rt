@@ -15,8 +15,8 @@ impl StreamKind {
     /// The cipher that makes the segments of the key's stream with this header, which is the one that opens them.
     ///
     /// # Errors
-    /// `NoMatchingKey` exactly where the bytes are no header of the key; then `UnknownHash` exactly where HKDF's hash is
-    /// unknown, and `UnsupportedHash` exactly where it is SHA-224.
+    /// `NoMatchingKey` exactly if the bytes are no header of the key. Then `UnknownHash` exactly if HKDF's hash is
+    /// unknown, and `UnsupportedHash` exactly if it is SHA-224.
     pub fn encrypter(&self, header: &[u8], aad: &[u8]) -> Result<StreamEncrypter, TinkError>
         ensures answer { DecrypterMeans (key_of self.now) aad.now header.now result }
     {

@@ -20,10 +20,9 @@ use tink_streaming_io::{SegmentWriter, Writer};
 /// are the first draws: 23 of them, or 39 where the derived key has 32 bytes.
 ///
 /// # Errors
-/// `OutOfMemory` before anything was drawn or written; `RandomFault` exactly where fewer draws are
-/// left than these, which stay; `UnknownHash` where HKDF's hash is unknown and `UnsupportedHash`
-/// where it is SHA-224, of which the draws were taken and nothing was written; `WriteFault` where
-/// the sink failed, and has a prefix of the front.
+/// `OutOfMemory` before anything was drawn or written. `RandomFault` exactly if fewer draws are left than
+/// these: they stay. `UnknownHash` if HKDF's hash is unknown and `UnsupportedHash` if it is SHA-224: the
+/// draws were taken and nothing was written. `WriteFault` if the sink failed: it has a prefix of the front.
 pub fn begin_stream<T: DerivesStreams, K: Sink>(
     alloc: Global,
     key: &T,

@@ -5,10 +5,12 @@ use crate::stream_params::DerivesStreams;
 use tink_streaming_ciphers::StreamSegment;
 use tink_streaming_io::OpensStreams;
 
-// A key, and the associated data of streams that it may have made.
+/// A key, and the associated data of streams that it may have made.
 #[derive(Drop)]
 pub struct KeyUnder<'a, T> {
+    /// The key.
     pub key: &'a T,
+    /// The associated data.
     pub aad: &'a [u8],
 }
 

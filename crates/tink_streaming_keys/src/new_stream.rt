@@ -1,4 +1,4 @@
-//! New streams under a key, of which nothing is written yet.
+//! New streams under a key. Nothing of them is written yet.
 
 ghost use Rattle.std.specs.Prelude.{◌≡◌, ◌≤◌, ◌<◌, ◌+◌, ◌∷◌, ◌++◌, ◌↔◌, [], length, take, drop, slice_index, IfOk, IfErr, IsErr, OnOk, OnErr, MatchResult, vec_len, vec_capacity};
 ghost use Rattle.std.specs.Io.KnownBytes.{Appends};
@@ -21,7 +21,7 @@ use tink_io::{Draws, Sink, TinkError, write_all};
 use tink_streaming_ciphers::StreamSegment;
 use tink_streaming_io::{Sealer, SegmentWriter, refill};
 
-/// What stands before the segments of a new stream: the output prefix of its key, and its header.
+/// The bytes before the segments of a new stream: the output prefix of its key, and its header.
 ///
 /// A contract sees its bytes.
 #[derive(Drop)]
@@ -59,10 +59,12 @@ impl<'a> Front<'a> {
     }
 }
 
-/// A new stream of which nothing is written: its front, and the writer of its segments.
+/// A new stream before anything is written: its front, and the writer of its segments.
 #[derive(Drop)]
 pub struct NewStream<'a> {
+    /// The output prefix and the header.
     pub front: Front<'a>,
+    /// The writer of the segments.
     pub writer: SegmentWriter<StreamSegment>,
 }
 
@@ -111,14 +113,13 @@ fn sealer_of<T: DerivesStreams>(
     }
 }
 
-/// A new stream of which nothing is written. All its memory is reserved first; then its salt and
-/// its prefix are drawn, which are the first draws: 23 of them, or 39 where the derived key has 32
-/// bytes; then its keys are derived.
+/// A new stream before anything is written. All its memory is reserved first. Then its salt and its nonce
+/// prefix are drawn: 23 draws, or 39 if the derived key has 32 bytes. Then its keys are derived.
 ///
 /// # Errors
-/// `OutOfMemory` before anything was drawn; `RandomFault` exactly where fewer draws are left than
-/// these, which stay; `UnknownHash` where HKDF's hash is unknown and `UnsupportedHash` where it is
-/// SHA-224, of which the draws were taken.
+/// `OutOfMemory` before anything was drawn. `RandomFault` exactly if fewer draws are left than these: they
+/// stay. `UnknownHash` if HKDF's hash is unknown and `UnsupportedHash` if it is SHA-224: the draws were
+/// taken.
 pub fn prepare_stream<'a, T: DerivesStreams>(
     alloc: Global,
     key: &'a T,

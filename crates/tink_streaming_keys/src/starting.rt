@@ -19,19 +19,23 @@ use tink_streaming_ciphers::StreamSegment;
 use tink_streaming_io::{Begun, Buffers, Kept, SegmentReader, carry};
 use tink_streaming_segment::zeros;
 
-/// What is needed to find the key of a stream: what is kept of its source, and memory for the
-/// largest of the keys.
+/// The memory for finding the key of a stream: the bytes read of its source, which are kept, and memory for
+/// the largest key.
 #[derive(Drop)]
 pub struct Trial {
+    /// The bytes that were read of the source.
     pub kept: Kept,
+    /// The memory of a nonce prefix: 7 bytes.
     pub prefix: Vec<u8>,
+    /// The memory of a nonce.
     pub nonce: Vec<u8>,
+    /// The memory of the text of a segment.
     pub opened: Vec<u8>,
 }
 
 impl Trial {
-    /// Memory for keys whose output prefix and segment have fewer bytes than `room`, for a text of as many, for
-    /// nonces of so many and their prefix of seven, and no more than that.
+    /// Memory for keys whose output prefix and segment have fewer bytes than `room`, and no more. It holds a
+    /// text of `room` bytes, nonces of `nonce` bytes and their prefix of seven.
     ///
     /// # Errors
     /// `OutOfMemory`.
@@ -57,13 +61,13 @@ impl Trial {
     }
 }
 
-/// The reader of the first key under which the stream begins with the associated data, over what is
-/// behind its front.
+/// The reader of the first key under which the stream begins with the associated data, over the bytes behind
+/// its front.
 ///
 /// # Errors
-/// NoMatchingKey where the stream begins under none, ReadFault where the source failed. No more was read than the trial
-/// has room for, with what the reader's first segment still lacks, and where the stream begins in a front of none of the
-/// keys no more than the longest front and a byte.
+/// NoMatchingKey where the stream begins under none, ReadFault where the source failed. No more was read than the
+/// trial has room for, and the bytes that the reader's first segment still lacks. If the stream begins in a front of
+/// none of the keys, no more was read than the longest front and a byte.
 pub fn start<S: Source, T: DerivesStreams>(
     keys: &[T],
     aad: &[u8],

@@ -7,21 +7,26 @@ use std::alloc::Global;
 use tink_io::TinkError;
 use tink_streaming_io::{Buffers, WriterBuffers};
 
-// The bytes of the prefix of a stream's nonces.
+/// The bytes of a nonce prefix.
 pub const PREFIX: usize = 7;
 
-// The bytes of a header at most.
+/// The bytes of a header at most: a byte of length, a salt of 32 bytes and a nonce prefix of 7.
 pub const MAX_HEADER: usize = 40;
 
-// All memory that a reader of a stream under a key takes.
+/// All memory that a reader of a stream under a key takes.
 #[derive(Drop)]
 pub struct ReaderMemory {
+    /// The memory of a text, a segment and a nonce.
     pub buffers: Buffers,
+    /// The memory of a nonce prefix: 7 bytes.
     pub prefix: Vec<u8>,
 }
 
 impl ReaderMemory {
-    // The memory of the key's sizes.
+    /// The memory of the key's sizes.
+    ///
+    /// # Errors
+    /// `OutOfMemory` alone.
     pub fn reserve<T: DerivesStreams>(alloc: Global, key: &T) -> Result<ReaderMemory, TinkError>
         ensures text { IfOk result (λ m. (m.buffers.text.items ≡ [])
             × (vec_capacity m.buffers.text ≡ (T.key_of key.now).segment + 1)) }
@@ -38,15 +43,20 @@ impl ReaderMemory {
     }
 }
 
-// All memory that a writer of a stream under a key takes.
+/// All memory that a writer of a stream under a key takes.
 #[derive(Drop)]
 pub struct WriterMemory {
+    /// The memory of a segment and a nonce.
     pub buffers: WriterBuffers,
+    /// The memory of a nonce prefix: 7 bytes.
     pub prefix: Vec<u8>,
 }
 
 impl WriterMemory {
-    // The memory of the key's sizes.
+    /// The memory of the key's sizes.
+    ///
+    /// # Errors
+    /// `OutOfMemory` alone.
     pub fn reserve<T: DerivesStreams>(alloc: Global, key: &T) -> Result<WriterMemory, TinkError>
         ensures segment { IfOk result (λ m. (vec_len m.buffers.segment ≡ (T.key_of key.now).segment)
             × (vec_capacity m.buffers.segment ≡ (T.key_of key.now).segment)) }

@@ -1,4 +1,4 @@
-//! What a key of streams has besides its main key.
+//! The parts of a key of streams, without its main key.
 
 ghost use Rattle.std.specs.Prelude.{◌≡◌, ◌⊎◌, ◌≤◌, ◌<◌, ◌+◌, [], Ok, length, nat_le};
 ghost use Rattle.stream_model.specs.Key.{IsTag, IsUsable, StreamKey, derived_bytes_of, first_segment, fronted, header_length, nonce_size, nonce_size_of, overhead, overhead_of};
@@ -77,7 +77,7 @@ impl Model for StreamParams {
 }
 
 impl StreamParams {
-    // These hashes and sizes, which leave the first segment room for some text.
+    /// These hashes and sizes in bytes, which leave the first segment room for some text.
     pub fn new(
         hkdf_alg: HashType,
         derived: usize,
@@ -111,7 +111,7 @@ impl StreamParams {
         }
     }
 
-    // The same hashes and sizes.
+    /// The same hashes and sizes.
     pub fn same(&self) -> StreamParams
         ensures { result ≡ self.now }
     {
@@ -125,7 +125,8 @@ impl StreamParams {
     }
 }
 
-// Whether a main key and the AES keys that are derived from it may have so many bytes.
+/// Whether a main key may have `main` bytes and the AES keys derived from it `derived` bytes: 16 or 32, and no more
+/// than `main`, which is 16 at least.
 pub fn is_key_size(main: usize, derived: usize) -> bool
     ensures { result ≡ is_key_size main derived }
 {
@@ -133,7 +134,7 @@ pub fn is_key_size(main: usize, derived: usize) -> bool
     16 <= main && derived <= main && is_aes_size
 }
 
-// Whether the first segment has no room for some text.
+/// Whether a first segment of `segment` bytes has no room for text.
 pub fn is_small(derived: usize, cipher: SegmentParams, segment: u32, offset: u32) -> bool
     requires derived { derived ≤ 32 }
     requires tag { IsTag (kind_of cipher) }
@@ -205,7 +206,7 @@ pub trait DerivesStreams {
             ≡ fronted (key_of self.now).out (with_main (key_of self.now).main result.now) }
         ensures usable { IsUsable (key_of self.now) };
 
-    /// The output prefix, which stands before the header of a stream.
+    /// The output prefix, which is before the header of a stream.
     fn output_prefix(&self) -> &[u8]
         ensures { result.now ≡ (key_of self.now).out };
 

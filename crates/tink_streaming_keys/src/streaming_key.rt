@@ -68,9 +68,9 @@ impl<C> StreamingKey<C> {
     ///
     /// # Errors
     /// The refusal hands back `w`. `OutOfMemory`, with nothing drawn or written; then the first that applies:
-    /// `RandomFault` exactly where fewer draws are left than a salt and seven bytes, none of which is taken;
-    /// `UnknownHash` exactly where HKDF's hash is unknown, and `UnsupportedHash` exactly where it is SHA-224, with
-    /// the draws taken and nothing written; `WriteFault` where the sink failed, which has a prefix of the header.
+    /// `RandomFault` exactly if fewer draws are left than a salt and seven bytes: none is taken. `UnknownHash`
+    /// exactly if HKDF's hash is unknown, and `UnsupportedHash` exactly if it is SHA-224, with the draws taken and
+    /// nothing written. `WriteFault` if the sink failed: it has a prefix of the header.
     pub fn new_encrypting_writer<K: Sink + Drop>(
         &self,
         alloc: Global,
@@ -86,9 +86,9 @@ impl<C> StreamingKey<C> {
     /// A reader of the stream in `r`, whose header is read. All memory is taken first.
     ///
     /// # Errors
-    /// The refusal hands back `r`. `OutOfMemory`, with nothing read; `ReadFault` where the source failed, of which no
-    /// more than a header's bytes were read; `NoMatchingKey` exactly where the header is missing, short or of another
-    /// length; `UnknownHash` exactly where HKDF's hash is unknown, and `UnsupportedHash` exactly where it is SHA-224.
+    /// The refusal hands back `r`. `OutOfMemory`, with nothing read. `ReadFault` if the source failed: no more than a
+    /// header's bytes were read. `NoMatchingKey` exactly if the header is missing, short or of another length.
+    /// `UnknownHash` exactly if HKDF's hash is unknown, and `UnsupportedHash` exactly if it is SHA-224.
     pub fn new_decrypting_reader<S: Source + Drop>(
         &self,
         alloc: Global,

@@ -30,11 +30,11 @@ pub const AES_CTR_HMAC_KEY_VERSION: u32 = 0;
 pub const AES_CTR_HMAC_TYPE_URL: &str =
     "type.googleapis.com/google.crypto.tink.AesCtrHmacStreamingKey";
 
-/// The type of keys of streams in counter mode with HMAC. A key builds exactly where its version is
-/// 0, it has 16 or 32 bytes, and there are params and params of HMAC, where each names a hash; the
-/// derived AES key has 16 or 32 bytes and no more than the key, the tag from 10 bytes to a digest,
-/// and the first segment room for a header, a tag and some text. A format makes a key exactly where
-/// the same holds of its version, params and key size.
+/// The type of keys of streams in AES counter mode (SP 800-38A, section 6.5) with HMAC (FIPS 198-1) and HKDF
+/// (RFC 5869). A key builds exactly if these facts hold. Its version is 0, and it has 16 or 32 bytes. There
+/// are params and params of HMAC, and each names a hash. The derived AES key has 16 or 32 bytes and no more
+/// than the key. The tag has from 10 bytes to a digest. The first segment has room for a header, a tag and
+/// some text. A format makes a key exactly where the same holds of its version, params and key size.
 pub struct AesCtrHmacKeys;
 
 /// The manager of keys of streams in counter mode with HMAC.
@@ -43,10 +43,15 @@ pub type AesCtrHmacKeyManager = SymmetricKeyManager<AesCtrHmacKeys>;
 /// What params name: hashes, and sizes in bytes.
 #[derive(Clone, Copy)]
 pub struct CtrHmacSizes {
+    /// The hash of HKDF.
     pub hkdf_hash: Hash,
+    /// The bytes of a derived AES key.
     pub derived: u32,
+    /// The hash of HMAC.
     pub tag_hash: Hash,
+    /// The bytes of a tag.
     pub tag: u32,
+    /// The bytes of a segment.
     pub segment: u32,
 }
 

@@ -30,10 +30,11 @@ pub const AES_GCM_HKDF_KEY_VERSION: u32 = 0;
 pub const AES_GCM_HKDF_TYPE_URL: &str =
     "type.googleapis.com/google.crypto.tink.AesGcmHkdfStreamingKey";
 
-/// The type of keys of streams by AES-GCM. A key builds exactly where its version is 0, it has 16 or
-/// 32 bytes, and there are params that name a hash; the derived AES key has 16 or 32 bytes and no
-/// more than the key, and the first segment room for a header, a tag of 16 bytes and some text. A
-/// format of whatever version makes a key exactly where the same holds of its params and key size.
+/// The type of keys of streams by AES-GCM (SP 800-38D) and HKDF (RFC 5869). A key builds exactly if these
+/// facts hold. Its version is 0, and it has 16 or 32 bytes. There are params that name a hash. The derived
+/// AES key has 16 or 32 bytes and no more than the key. The first segment has room for a header, a tag of 16
+/// bytes and some text. A format of whatever version makes a key exactly where the same holds of its params
+/// and key size.
 pub struct AesGcmHkdfKeys;
 
 /// The manager of keys of streams by AES-GCM.
@@ -42,8 +43,11 @@ pub type AesGcmHkdfKeyManager = SymmetricKeyManager<AesGcmHkdfKeys>;
 /// What params name: a hash, and sizes in bytes.
 #[derive(Clone, Copy)]
 pub struct GcmHkdfSizes {
+    /// The hash of HKDF.
     pub hkdf_hash: Hash,
+    /// The bytes of a derived AES key.
     pub derived: u32,
+    /// The bytes of a segment.
     pub segment: u32,
 }
 

@@ -7,14 +7,15 @@ ghost use Rattle.tink_core_subtle.specs.Hashes.{hash_named};
 use hash_keys::Hash;
 use tink_proto::HashType;
 
-// Whether a main key may have so many bytes where AES keys of `derived` bytes are derived from it.
+/// Whether a main key may have `main` bytes and the AES keys derived from it `derived` bytes. Each is 16 or 32,
+/// and `derived` is no more than `main`.
 pub fn are_key_sizes(main: usize, derived: u32) -> bool
     ensures { result ≡ building.are_key_sizes main derived }
 {
     (main == 16 || main == 32) && (derived == 16 || derived == 32) && derived as usize <= main
 }
 
-// The hash of a number as a message holds it, where one has it.
+/// The hash of a number in a message, if a hash has it.
 pub fn hash_numbered(number: i32) -> Option<Hash>
     ensures { result ≡ building.hash_numbered number }
 {
@@ -29,7 +30,7 @@ pub fn hash_numbered(number: i32) -> Option<Hash>
     }
 }
 
-// The type of a hash.
+/// The type of a hash.
 pub fn type_of(hash: Hash) -> HashType
     ensures { hash_named result ≡ Some hash }
 {

@@ -17,9 +17,10 @@ use tink_proto_keys::{
     AesGcmHkdfStreamingParams, HmacParams,
 };
 
-// The bytes of a segment.
+/// The 4,096 bytes of a segment.
 pub const SEGMENT_4KB: u32 = 4096;
 
+/// The 1,048,576 bytes of a segment.
 pub const SEGMENT_1MB: u32 = 1_048_576;
 
 /// AES in counter mode and HMAC-SHA256 with tags of 32 bytes, in segments of 4,096 bytes. Keys have
@@ -118,7 +119,11 @@ pub fn aes256_gcm_hkdf_1mb_key_template(alloc: Global) -> Result<KeyTemplate, Ti
     gcm_hkdf_key_template(alloc, 32, SEGMENT_1MB)
 }
 
-// In counter mode with HMAC.
+/// AES in counter mode and HMAC-SHA256 with tags of 32 bytes, in segments of `segment` bytes. Keys have `key_size`
+/// bytes, and so do the AES keys that HKDF derives from them by SHA-256.
+///
+/// # Errors
+/// `OutOfMemory` alone.
 pub fn ctr_hmac_key_template(
     alloc: Global,
     key_size: u32,
@@ -142,7 +147,11 @@ pub fn ctr_hmac_key_template(
     new_template(alloc, AES_CTR_HMAC_TYPE_URL, &format, OutputPrefixType::Raw)
 }
 
-// By AES-GCM.
+/// AES-GCM in segments of `segment` bytes. Keys have `key_size` bytes, and so do the AES keys that HKDF derives from
+/// them by SHA-256.
+///
+/// # Errors
+/// `OutOfMemory` alone.
 pub fn gcm_hkdf_key_template(
     alloc: Global,
     key_size: u32,

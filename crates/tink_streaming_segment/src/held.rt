@@ -6,8 +6,10 @@ ghost use Rattle.tink_streaming_segment.specs.Opening.{HoldsOrFails};
 
 use tink_io::{Failed, Source};
 
-// Reads into `buffer`, whose first `filled` bytes are there, up to its place `want` or the source's end. What was read
-// before the source failed is there too.
+/// Reads into `buffer`, whose first `filled` bytes are there, up to its place `want` or the source's end.
+///
+/// # Errors
+/// `Failed` if the source failed. The bytes that were read before are in the buffer.
 pub fn fill<S: Source>(
     source: &mut S,
     buffer: &mut [u8],
@@ -37,8 +39,10 @@ pub fn fill<S: Source>(
     Ok(())
 }
 
-// Reads into `buffer`, whose first `filled` bytes are held, until more than `size` are, or to the source's end. What was
-// read before the source failed is held too.
+/// Reads into `buffer`, whose first `filled` bytes are held, until more than `size` are, or to the source's end.
+///
+/// # Errors
+/// `Failed` if the source failed. The bytes that were read before are held.
 #[tactic(auto, using(crate::proofs::HeldFacts::holds_or_fails))]
 pub fn hold<S: Source>(
     source: &mut S,
@@ -62,7 +66,7 @@ pub fn hold<S: Source>(
     fill(source, buffer, filled, size + 1)
 }
 
-// Brings the bytes from `place` up to `filled` to the start.
+/// Brings the bytes from `place` up to `filled` to the start.
 pub fn carry(buffer: &mut Vec<u8>, place: usize, filled: usize)
     requires place { place ≤ filled }
     requires filled { filled ≤ vec_len buffer.old }

@@ -8,7 +8,9 @@ use tink_io::{Failed, Source};
 /// The first bytes of a source: they were read and are kept.
 #[derive(Drop)]
 pub struct Kept {
+    /// The memory of the bytes.
     pub buffer: Vec<u8>,
+    /// The number of bytes that were read: the first ones of `buffer`.
     pub filled: usize,
     ghost filled_in: { filled ≤ vec_len buffer },
 }

@@ -1,5 +1,5 @@
-//! What ciphers of segments do, the nonces and sizes of segments, one segment that is sealed or opened, and the bytes
-//! that are held of a source.
+//! The ciphers of segments by their traits, the nonces and sizes of segments, sealing and opening one segment, and
+//! the bytes held of a source.
 #![tactic(auto)]
 
 mod held;

@@ -2,7 +2,7 @@
 
 ghost use Rattle.std.specs.Prelude.{◌≡◌, ◌≤◌, length, vec_len, vec_capacity};
 
-// Gives `bytes` this length, whatever they are.
+/// Gives `bytes` a length of `n` bytes. The clauses do not say which bytes they are.
 pub fn set_length(bytes: &mut Vec<u8>, n: usize)
     requires { n ≤ vec_capacity bytes.old }
     ensures len { vec_len bytes.new ≡ n }

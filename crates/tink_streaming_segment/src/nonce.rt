@@ -4,7 +4,11 @@ ghost use Rattle.tink_io.specs.declared.error.Kind.TheVariants.{TooManySegments}
 
 use tink_io::{Kind, TinkError};
 
-/// The nonce of a segment.
+/// Writes the nonce of a segment: the nonce prefix, the number in four big-endian bytes, the mark of the last segment,
+/// zeros.
+///
+/// # Errors
+/// `TooManySegments` exactly if the number is 2^32 or more. Nothing is written then.
 pub fn generate_segment_nonce(
     out: &mut [u8],
     prefix: &[u8],

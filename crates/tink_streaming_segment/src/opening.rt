@@ -9,7 +9,8 @@ use crate::nonce::generate_segment_nonce;
 use crate::opener::Opener;
 use crate::segment_traits::SegmentDecrypter;
 
-// The size of a segment that others follow.
+/// The bytes that a segment of this number has at most: `first` for segment 0, which follows the front, and else
+/// `size`.
 pub fn size_of<D: SegmentDecrypter>(opener: &Opener<D>, number: u64) -> usize
     ensures { result ≡ room_at opener.now.first opener.now.size number }
 {

@@ -12,7 +12,8 @@ use crate::sealer::Sealer;
 use crate::segment_traits::SegmentEncrypter;
 use tink_io::{Sink, TinkError, write_all};
 
-// The room of the next segment's text.
+/// The bytes of plaintext for which the next segment has room: `first` for segment 0, which follows the front, and
+/// else `room`.
 pub fn room_of<E: SegmentEncrypter>(sealer: &Sealer<E>, segments: u64) -> usize
     ensures { result ≡ room_at sealer.now.first sealer.now.room segments }
 {
@@ -44,7 +45,10 @@ fn seal_in_place<E: SegmentEncrypter>(
     }
 }
 
-// Makes the segment of the first `filled` bytes in their place, and writes it.
+/// Encrypts the first `filled` bytes of `segment` in their place, as the segment of that number, and writes it.
+///
+/// # Errors
+/// `WriteFault` if the sink failed, with a prefix of the segment written.
 pub fn send<K: Sink, E: SegmentEncrypter>(
     sink: &mut K,
     sealer: &Sealer<E>,

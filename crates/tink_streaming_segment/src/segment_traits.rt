@@ -44,7 +44,9 @@ pub trait SegmentEncrypter {
     ghost one_text: { (e : Self) (n t u : List ℕ) → seg e n t ≡ seg e n u → t ≡ u };
 
     /// The segment of a text under a nonce, in memory of its own, with the conditions of `encrypt_segment_into`.
-    /// `OutOfMemory` is the one refusal.
+    ///
+    /// # Errors
+    /// `OutOfMemory` alone.
     final fn encrypt_segment(
         &self,
         alloc: Global,
@@ -65,7 +67,7 @@ pub trait SegmentEncrypter {
     }
 }
 
-/// So many zeros, in memory for no more.
+/// `n` zeros, in memory for no more.
 ///
 /// # Errors
 /// `OutOfMemory`.
@@ -95,8 +97,10 @@ pub trait SegmentDecrypter {
         ensures { result ≡ overhead_of self.now };
 
     /// Writes the text of a segment under a nonce into `out`, which has its length: no bytes where the segment is
-    /// shorter than the overhead. The nonce has the cipher's length, and the text's length fits u32. `DecryptFailed`
-    /// exactly where it is the segment of no text, and nothing is written then.
+    /// shorter than the overhead. The nonce has the cipher's length, and the text's length fits u32.
+    ///
+    /// # Errors
+    /// `DecryptFailed` exactly if it is the segment of no text. Nothing is written then.
     fn decrypt_segment_into(
         &self,
         segment: &[u8],
@@ -116,7 +120,9 @@ pub trait SegmentDecrypter {
     ghost one_text: { (d : Self) (n t u : List ℕ) → seg d n t ≡ seg d n u → t ≡ u };
 
     /// The text of a segment under a nonce, in memory of its own, with the conditions of `decrypt_segment_into`.
-    /// `DecryptFailed` only where it is the segment of no text, and there it or `OutOfMemory`.
+    ///
+    /// # Errors
+    /// `DecryptFailed` only if it is the segment of no text, or `OutOfMemory`.
     final fn decrypt_segment(
         &self,
         alloc: Global,

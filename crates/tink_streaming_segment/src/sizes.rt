@@ -6,8 +6,8 @@ use tink_io::{Kind, TinkError};
 /// Whether a nonce has room for its prefix, and the first segment for some text. Sizes are in bytes.
 ///
 /// # Errors
-/// `NonceTooShort` where a nonce has not five bytes more than its prefix, `OffsetTooBig` where the offset is beyond the
-/// segment, `SegmentTooSmall` where the first segment has no room for text.
+/// `NonceTooShort` if a nonce has not five bytes more than its prefix. `OffsetTooBig` if the offset is beyond the
+/// segment. `SegmentTooSmall` if the first segment has no room for text.
 pub fn check_sizes(
     nonce_size: usize,
     prefix: &[u8],

@@ -1,6 +1,6 @@
-//! What the commands over files need of the system: files by their names, a draft that becomes a file, standard input,
-//! random bytes and the terminal. A trait says this, so that a contract sees the files. `MemSystem` is one over memory; the real
-//! one is in `tink_unix`.
+//! The system as the commands over files need it: files by their names, drafts that become files, standard input,
+//! random bytes and the terminal. A trait says this, so that a contract sees the files. A system over memory is one;
+//! the real one is in `tink_unix`.
 #![tactic(auto)]
 
 pub mod lines;

@@ -84,7 +84,7 @@ pub trait System {
         ensures state { state self.new ≡ state self.old }
         ensures later { faults self.old ≤ faults self.new };
 
-    /// Opens a file that is read in any place. If it may, it shows the progress of so many bytes on a terminal.
+    /// Opens a file that is read in any place. If it may, it shows the progress on a terminal.
     ///
     /// # Errors
     /// Status 11 if no file has the name, it is no regular file, or the system refuses; 10.
@@ -112,9 +112,9 @@ pub trait System {
     /// Begins a draft of no bytes for a name.
     ///
     /// # Errors
-    /// Status 12 if the name is of a folder, a pipe or a device, a file has it and none is to be replaced, none has it and one
-    /// is to be changed, the file may not be written, another change of it is at work, or the system refuses; 10. Nothing is
-    /// left then.
+    /// Status 12 if the name is of a folder, a pipe or a device. Status 12 if a file has it and none is to be
+    /// replaced, or none has it and one is to be changed. Status 12 if the file may not be written, another change of
+    /// it is at work, or the system refuses. 10. Nothing is left then.
     fn begin<'w>(&mut self, name: &'w [u8], how: How) -> Result<Self::Draft, Trouble<'w>>
         ensures begun { IfOk result (λ d. HasBegun (state self.old) name.now how (Self.Draft.has_draft d)
             (Self.Draft.replaces d) (Self.Draft.got d) (Self.Draft.shown d)) }

@@ -20,8 +20,8 @@ use tink_proto::{Bytes, Text};
 ///
 /// # Errors
 /// The first that applies: `BadKeyset`, `InvalidKeyset`, `UnsupportedKeyType`, `InvalidKey`, `NoPrimary` or
-/// `WrongPrimitive`, why the keyset does not load as MACs, with nothing read; `ReadFault`; `InputTooLong` exactly where
-/// the source has more than 16,777,216 bytes, of which at most one more was taken; `WriteFault` after a prefix of the token.
+/// `WrongPrimitive` if the keyset does not load as MACs, with nothing read. `ReadFault`. `InputTooLong` exactly if the
+/// source has more than 16,777,216 bytes: at most 16,777,217 were taken. `WriteFault` after a prefix of the token.
 /// `OutOfMemory` may come in place of each. Each but `WriteFault` leaves the sink as it is.
 pub fn write_token<S: Source, K: Sink>(
     alloc: Global,
@@ -77,8 +77,8 @@ fn answer_token<S: Source, K: Sink>(
 /// Writes the payload of the token that the source has, where a key of a keyset of MACs accepts it.
 ///
 /// # Errors
-/// As `write_token`; before a `WriteFault`, which comes after a prefix of the payload, `BadToken` exactly where the
-/// source's bytes are no token, and `MacMismatch` exactly where no key accepts its MAC.
+/// As `write_token`, with a prefix of the payload before a `WriteFault`. Before that, `BadToken` exactly if the
+/// source's bytes are no token, and `MacMismatch` exactly if no key accepts its MAC.
 pub fn write_payload<S: Source, K: Sink>(
     alloc: Global,
     keyset: &[u8],

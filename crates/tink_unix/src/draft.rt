@@ -54,6 +54,9 @@ pub struct Draft {
 }
 
 /// Makes a draft for the file behind a name.
+///
+/// # Errors
+/// Status 12 if the name is not one of a file that may be written as `how` says, or the system refuses; 10.
 pub fn begin<'w>(rt: &HostRuntime, name: &'w [u8], how: How) -> Result<Draft, Trouble<'w>>
     ensures made { IfOk result (λ d. (d.is_drafted ≡ true) × (d.is_replacing ≡ replaces_by how)) }
     ensures refused { IfErr result (IsOfStatus 12) }

@@ -130,7 +130,11 @@ impl Source for Input {
     ghost same_trans = { λ _ _ _ _ _. tt };
 }
 
-/// Reads, again where it was interrupted, or answers the error's number.
+/// Reads. If a signal interrupts it, it reads again.
+///
+/// # Errors
+/// The number of the system's error, EINTR if it is always interrupted. `TOO_MANY` if the reader claims more bytes
+/// than `buf` has.
 pub fn read_retrying<R: Read>(reader: &mut R, buf: &mut [u8]) -> Result<usize, i32>
     ensures bound { ReadsAtMost result buf.new }
 {

@@ -1,8 +1,8 @@
 //! Drafts that a run left which was cut off.
 //!
 //! A run holds the lock of its draft (`flock`) until it is shown or taken away, and the system ends the lock with the
-//! process. So a draft that can be locked is of no run any more, and is taken away. It is never emptied: after a run that was
-//! cut off between two steps it may be a second name of the file that was shown.
+//! process. So a draft that can be locked is of no run any more, and is taken away. It is never emptied. After a run
+//! that was cut off between two steps it may be a second name of the file that was shown.
 
 use crate::names::{Which, draft_name};
 use crate::notes::note;
@@ -99,7 +99,10 @@ pub fn names_this(rt: &HostRuntime, path: &str, file: &File) -> bool {
     }
 }
 
-/// The same, or the error's number.
+/// Whether a path is the name of this very file.
+///
+/// # Errors
+/// The number of the system's error, if the system does not answer.
 pub fn is_name_of(rt: &HostRuntime, path: &str, file: &File) -> Result<bool, i32> {
     let named = match fs::symlink_metadata(rt, path) {
         Ok(named) => named,

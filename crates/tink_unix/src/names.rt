@@ -33,6 +33,9 @@ pub enum Which {
 }
 
 /// A name as std takes it.
+///
+/// # Errors
+/// `NOT_UTF8` if the name is not UTF-8.
 pub fn text_of(name: &[u8]) -> Result<&str, i32> {
     match str::from_utf8(name) {
         Ok(text) => Ok(text),
@@ -41,6 +44,9 @@ pub fn text_of(name: &[u8]) -> Result<&str, i32> {
 }
 
 /// The name behind the links that a name ends in. The last of them may lead to a name that no file has.
+///
+/// # Errors
+/// The number of the system's error: ELOOP if there are 40 links or more, ENOMEM if there is no memory.
 pub fn follow(rt: &HostRuntime, name: &str) -> Result<String, i32> {
     let mut path = match String::from_str(rt.alloc(), name) {
         Ok(path) => path,
@@ -56,6 +62,9 @@ pub fn follow(rt: &HostRuntime, name: &str) -> Result<String, i32> {
 }
 
 /// The name to which a link leads, or none if the name is of no link.
+///
+/// # Errors
+/// The number of the system's error, ENOMEM if there is no memory.
 pub fn step(rt: &HostRuntime, path: &str) -> Result<Option<String>, i32> {
     match fs::read_link(rt, path) {
         Ok(target) => match joined(rt, path, target.as_str()) {
@@ -80,7 +89,7 @@ fn joined(rt: &HostRuntime, link: &str, target: &str) -> Result<String, AllocErr
     Ok(whole)
 }
 
-/// A path up to its last slash, and what is behind it.
+/// A path up to its last slash, and the name behind it.
 pub fn parts_of(path: &str) -> (&str, &str)
     ensures { path.now ≡ result.0.now ++ result.1.now }
 {
@@ -102,6 +111,9 @@ pub fn folder_of(path: &str) -> &str {
 }
 
 /// The name of a draft, in the folder of its file.
+///
+/// # Errors
+/// `AllocError` if there is no memory.
 pub fn draft_name(rt: &HostRuntime, target: &str, which: Which) -> Result<String, AllocError> {
     let (folder, name) = parts_of(target);
     let mut path = String::from_str(rt.alloc(), folder)?;

@@ -3,7 +3,7 @@
 use tink_io::StdSink;
 use tink_system::lines::{put, put_escaped};
 
-/// One line of a name and what is to be known of it.
+/// Writes one line: a name, and the facts about it.
 pub fn note(rt: &HostRuntime, name: &str, parts: &[&str]) {
     let mut error = StdSink::new(rt.stderr());
     put(&mut error, b"tink: ");

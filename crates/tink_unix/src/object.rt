@@ -20,7 +20,7 @@ const TRIES: usize = 1_000;
 
 const EINTR: i32 = 4;
 
-/// A file, with the size that it had when it was opened. No clause knows its bytes.
+/// A file, with its size at the time when it was opened. No clause knows its bytes.
 #[derive(Drop)]
 pub struct Object {
     file: File,

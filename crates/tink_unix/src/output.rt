@@ -1,4 +1,4 @@
-//! What is written: a file, or a pipe or a device as it comes.
+//! An output: a file, or a pipe or a device as it comes.
 
 ghost use Rattle.std.specs.Prelude.{◌≡◌, ◌<◌, None, ⊤, length, IfOk};
 ghost use Rattle.std.specs.Io.{WritesAtMost};

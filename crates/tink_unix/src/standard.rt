@@ -11,8 +11,9 @@ const EBADF: i32 = 9;
 // As many links as Linux follows.
 const MOST_LINKS: usize = 40;
 
-/// Opens what is closed of standard input, output and error, so that no file that the program opens later is taken for
-/// one of them. A read from what was closed fails, and so does a write to it. It is called before any file is opened.
+/// Opens those of standard input, output and error that are closed. So no file that the program opens later is taken
+/// for one of them. A read from what was closed fails, and so does a write to it. It is called before any file is
+/// opened.
 pub fn occupy_standard_streams(rt: &HostRuntime) {
     if is_closed(&rt.stdin()) {
         occupy(rt, false);

@@ -10,23 +10,23 @@ use crate::blocks::backends::{
 };
 use crate::buffers::{InOut, InOutBuf, part_of};
 
-/// The closure of a call on one block, of a cipher or of a mode: it reads the first block of the input, or the output
-/// where the input has none.
+/// The closure of a call on one block, of a cipher or of a mode. It reads the first block of the input, or the output
+/// if the input has none.
 #[derive(Drop)]
 pub struct BlockCtx<'i, 'o, const B: usize> {
     /// The place that is written.
     pub output: &'o mut [u8; B],
-    /// What is read, if it has a block.
+    /// The blocks that are read, if there is one.
     pub input: &'i [[u8; B]],
 }
 
-/// The closure of a call on blocks, of a cipher or of a mode: it reads the input, or the output where the input has
+/// The closure of a call on blocks, of a cipher or of a mode. It reads the input, or the output if the input has
 /// another length.
 #[derive(Drop)]
 pub struct BlocksCtx<'i, 'o, const B: usize> {
     /// The places that are written.
     pub output: &'o mut [[u8; B]],
-    /// What is read, if it is as long.
+    /// The blocks that are read, if they are as many.
     pub input: &'i [[u8; B]],
 }
 

@@ -17,9 +17,12 @@ pub struct TestVector {
     pub ciphertext: &'static [u8],
 }
 
-/// Whether a cipher encrypts and decrypts as a vector says. The error is the first text whose case holds:
-/// `cipher initialization failure` (the key's length), `unexpected size of plaintext block`,
-/// `unexpected size of ciphertext block`, `single block encryption failure`, `single block decryption failure`.
+/// Whether a cipher encrypts and decrypts as a vector says.
+///
+/// # Errors
+/// The first text whose case holds: `cipher initialization failure` (the key's length), `unexpected size of plaintext
+/// block`, `unexpected size of ciphertext block`, `single block encryption failure`, `single block decryption
+/// failure`.
 pub fn encrypt_decrypt_test<
     C: KeyInit<K> + BlockCipherEncrypt<B> + BlockCipherDecrypt<B> + Drop,
     const K: usize,
@@ -33,7 +36,10 @@ pub fn encrypt_decrypt_test<
     }
 }
 
-/// Whether a cipher encrypts as a vector says, with the texts of `encrypt_decrypt_test`.
+/// Whether a cipher encrypts as a vector says.
+///
+/// # Errors
+/// As `encrypt_decrypt_test`, without `single block decryption failure`.
 pub fn encrypt_test<C: KeyInit<K> + BlockCipherEncrypt<B> + Drop, const K: usize, const B: usize>(
     tv: &TestVector,
 ) -> Result<(), &'static str>
@@ -45,7 +51,10 @@ pub fn encrypt_test<C: KeyInit<K> + BlockCipherEncrypt<B> + Drop, const K: usize
     }
 }
 
-/// Whether a cipher decrypts as a vector says, with the texts of `encrypt_decrypt_test`.
+/// Whether a cipher decrypts as a vector says.
+///
+/// # Errors
+/// As `encrypt_decrypt_test`, without `single block encryption failure`.
 pub fn decrypt_test<C: KeyInit<K> + BlockCipherDecrypt<B> + Drop, const K: usize, const B: usize>(
     tv: &TestVector,
 ) -> Result<(), &'static str>

@@ -21,7 +21,10 @@ use std::alloc::AllocError;
 pub struct ZeroTweak<C, const T: usize>(pub C);
 
 impl<C: Clone, const T: usize> ZeroTweak<C, T> {
-    /// An equal value, where the inner cipher's clone is equal to it.
+    /// An equal value, if the inner cipher's clone is equal to it.
+    ///
+    /// # Errors
+    /// `AllocError` of the inner cipher's clone. If that always succeeds, so does this call.
     pub fn clone(&self) -> Result<Self, AllocError>
         requires { (c : C) → C.is_clone self.now.0 c → c ≡ self.now.0 }
         ensures value { IfOk result (λ other. other ≡ self.now) }

@@ -26,11 +26,13 @@ pub struct TestVector {
     pub ciphertext: &'static [u8],
 }
 
-/// Whether a mode encrypts as a vector says. The error is the first text whose case holds:
-/// `ciphertext is bigger than MAX_MSG_LEN bytes` (4,096), `plaintext/ciphertext length mismatch`,
-/// `plaintext/ciphertext length is not multiple of block size`, `cipher initialization failure` (the key's or the
-/// vector's length), `single block encryption failure`. Several blocks together are tried too, and
-/// `multi-block encryption failure` never comes.
+/// Whether a mode encrypts as a vector says. The test also tries several blocks together.
+///
+/// # Errors
+/// The first text whose case holds: `ciphertext is bigger than MAX_MSG_LEN bytes` (4,096), `plaintext/ciphertext
+/// length mismatch`, `plaintext/ciphertext length is not multiple of block size`, `cipher initialization failure` (the
+/// key's or the vector's length), `single block encryption failure`. The text `multi-block encryption failure` never
+/// comes.
 pub fn encrypt<
     C: KeyIvInit<K, I> + BlockModeEncrypt<B>,
     const K: usize,
@@ -49,11 +51,12 @@ pub fn encrypt<
     )
 }
 
-/// Whether a mode decrypts as a vector says. The error is the first text whose case holds:
-/// `plaintext is bigger than MAX_MSG_LEN bytes` (4,096), `plaintext/ciphertext length mismatch`,
-/// `plaintext/ciphertext length is not multiple of block size`, `cipher initialization failure` (the key's or the
-/// vector's length), `single block decryption failure`. Several blocks together are tried too, and
-/// `multi-block decryption failure` never comes.
+/// Whether a mode decrypts as a vector says. The test also tries several blocks together.
+///
+/// # Errors
+/// The first text whose case holds: `plaintext is bigger than MAX_MSG_LEN bytes` (4,096), `plaintext/ciphertext length
+/// mismatch`, `plaintext/ciphertext length is not multiple of block size`, `cipher initialization failure` (the key's
+/// or the vector's length), `single block decryption failure`. The text `multi-block decryption failure` never comes.
 pub fn decrypt<
     C: KeyIvInit<K, I> + BlockModeDecrypt<B>,
     const K: usize,

@@ -21,9 +21,11 @@ pub struct TestVector {
     pub ciphertext: &'static [u8],
 }
 
-/// Whether a stream cipher encrypts as a vector says, in pieces of 1 to 255 bytes. The error is the first text whose
-/// case holds: `mismatch of plaintext and ciphertext lengths`, `cipher initialization failure` (the key's or the
-/// vector's length), and then whichever comes first of `end of keystream reached` and `ciphertext mismatch`.
+/// Whether a stream cipher encrypts as a vector says, in pieces of 1 to 255 bytes.
+///
+/// # Errors
+/// `mismatch of plaintext and ciphertext lengths`, then `cipher initialization failure` (the key's or the vector's
+/// length). After them the text that comes first of `end of keystream reached` and `ciphertext mismatch`.
 pub fn stream_cipher_test<C: KeyIvInit<K, I> + StreamCipher + Drop, const K: usize, const I: usize>(
     tv: &TestVector,
 ) -> Result<(), &'static str>

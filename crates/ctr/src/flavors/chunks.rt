@@ -6,8 +6,8 @@ ghost use Rattle.std.specs.Prelude.{◌≡◌, ◌%◌, ◌≤◌};
 /// The sizes of blocks.
 pub enum BlockSizes {}
 
-/// A block of B bytes is a whole number of chunks of W bytes, at least one. Each B below 256 of which this holds has
-/// its `impl` here, for W of 4, 8 and 16.
+/// A block of B bytes is a whole number of chunks of W bytes, at least one. Each B below 256 for which this holds
+/// has its `impl` here, for W of 4, 8 and 16.
 pub trait WholeChunks<const W: usize, const B: usize> {
     ghost whole: { (W ≤ B) × (B % W ≡ 0) };
 }

@@ -24,7 +24,7 @@ pub trait CounterWord: StreamCipherCounter {
 
     ghost zero: { Self };
 
-    /// The name of a nonce with such a counter.
+    /// The name of a nonce with this counter.
     fn nonce_name() -> &'static str
         ensures value { result.now ≡ nonce_name };
 

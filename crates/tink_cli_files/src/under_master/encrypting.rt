@@ -13,7 +13,10 @@ use tink_keysets::keyset::{Handle, MemReaderWriter, Reader};
 use tink_primitives::Aead;
 use tink_proto::EncryptedKeyset;
 
-// The keyset of a handle, encrypted with the associated data.
+/// The keyset of a handle, encrypted by `master` with the associated data, with its keyset info in the clear.
+///
+/// # Errors
+/// `MasterFailed` if the master refuses. `OutOfMemory`.
 pub fn encrypt<A: Aead>(
     alloc: Global,
     handle: &Handle,
@@ -31,7 +34,12 @@ pub fn encrypt<A: Aead>(
     memory.read_encrypted(alloc)
 }
 
-// A handle of the keyset that was encrypted with the associated data.
+/// A handle of an encrypted keyset, which `master` decrypts with the associated data.
+///
+/// # Errors
+/// The first that applies: `MasterFailed` if the master refuses. `BadKeyset` if the plaintext is no keyset in the wire
+/// format. `InvalidKeyset` if a key that is not destroyed has no data, or data has a material outside 0 to 4.
+/// `OutOfMemory`.
 pub fn decrypt<A: Aead>(
     alloc: Global,
     encrypted: EncryptedKeyset,

@@ -13,8 +13,11 @@ use tink_io::{Draws, TinkError};
 use tink_keyset_io::key_files::Format;
 use tink_proto::Bytes;
 
-/// Wraps a file of keys in the wire format, and unwraps it under the same master with the same associated data. The
-/// same keyset is given back, where no key of the master opens what was made to another text.
+/// Wraps a file of keys in the wire format, and unwraps it under the same master with the same associated data. If no
+/// key of the master decrypts the ciphertext to another plaintext, the same keyset comes back.
+///
+/// # Errors
+/// That of loading the file of keys; then `MasterFailed` if the master refuses to encrypt. `OutOfMemory`.
 pub fn law_wrapped_is_unwrapped(
     alloc: Global,
     master: &Master,
@@ -35,8 +38,8 @@ pub fn law_wrapped_is_unwrapped(
     unwrapped(alloc, master, file.as_slice(), aad, format)
 }
 
-/// What a master wrapped is unwrapped by the master after every list of commands that neither disables, destroys nor
-/// deletes a key of its primary id, where none of its keys opens the ciphertext to another text.
+/// A master wraps a keyset, and then commands edit the master. If none disables, destroys or deletes a key of its
+/// primary id, the master still unwraps it. The premise: none of its keys opens the ciphertext to another text.
 pub fn law_wrapped_outlives_commands()
     ensures { WrappedOutlives }
 {}

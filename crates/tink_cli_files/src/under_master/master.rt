@@ -16,10 +16,14 @@ pub type Master = WrappedAead<AeadKind>;
 /// The AEADs of the valid keyset of a file of keys.
 ///
 /// # Errors
-/// The first that applies: `BadJson` exactly where the file is JSON by its first byte, and spells no keyset;
-/// `BadKeyset` exactly where it is none, and spells no keyset; `InvalidKeyset` exactly where that is not valid; for
-/// the first enabled key that does not build, `InvalidKey` or `UnsupportedKeyType`; `NoPrimary`; `WrongPrimitive`
-/// exactly where an enabled key is no AEAD. `OutOfMemory` may come in place of each.
+/// The first that applies:
+/// - exactly if the file spells no keyset, `BadJson` if it is JSON by its first byte, and else `BadKeyset`;
+/// - `InvalidKeyset` exactly if the keyset is not valid;
+/// - `InvalidKey` or `UnsupportedKeyType` of the first enabled key that does not build;
+/// - `NoPrimary`;
+/// - `WrongPrimitive` exactly if an enabled key is no AEAD.
+///
+/// `OutOfMemory` may come in place of each.
 pub fn load_master(alloc: Global, file: Vec<u8>) -> Result<Master, TinkError>
     ensures { GivesMaster result (master_of file.items) }
 {

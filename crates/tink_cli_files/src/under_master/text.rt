@@ -16,7 +16,11 @@ use tink_json::Json;
 use tink_keyset_io::key_files::Format;
 use tink_proto::{Bytes, EncryptedKeyset, Message, ProtoError};
 
-// The encrypted keyset of a file.
+/// The encrypted keyset of a wrapped file, in the wire format or in JSON.
+///
+/// # Errors
+/// `BadKeyset` if the file is in the wire format and no encrypted keyset; `BadJson` if it is in JSON and none.
+/// `OutOfMemory`.
 pub fn wrapped_in(alloc: Global, file: &[u8]) -> Result<EncryptedKeyset, TinkError>
     ensures { Answers result (wrapped_in file.now) }
 {
@@ -26,7 +30,10 @@ pub fn wrapped_in(alloc: Global, file: &[u8]) -> Result<EncryptedKeyset, TinkErr
     }
 }
 
-// The file of this format that holds an encrypted keyset. One in the wire format is read again.
+/// The file of this format that holds an encrypted keyset. One in the wire format is read again.
+///
+/// # Errors
+/// `OutOfMemory` alone.
 pub fn wrapped_text(
     alloc: Global,
     format: Format,

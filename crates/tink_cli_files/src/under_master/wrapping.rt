@@ -21,11 +21,11 @@ use tink_keysets::keyset::{Handle, insecure};
 use tink_proto::{Bytes, EncryptedKeyset, Keyset};
 
 /// The keyset of a file of keys, encrypted by the primary key of a master with the associated data, as a file of this
-/// format: an `EncryptedKeyset` of Tink, which tells the ids, states and types of its keys beside the ciphertext.
+/// format. It is an `EncryptedKeyset` of Tink: it has the ids, statuses and types of its keys in the clear.
 ///
 /// # Errors
-/// `BadJson`, `BadKeyset` and `InvalidKeyset` exactly where the file of keys is no valid keyset, as `load_master`;
-/// then `MasterFailed` exactly where the master refuses: the keyset is too long for it, or too few draws are left.
+/// `BadJson`, `BadKeyset` and `InvalidKeyset` exactly if the file of keys is no valid keyset, as `load_master`.
+/// Then `MasterFailed` exactly if the master refuses: the keyset is too long for it, or too few draws are left.
 /// `OutOfMemory` may come in place of each.
 pub fn wrapped(
     alloc: Global,
@@ -54,14 +54,14 @@ pub fn wrapped(
     wrapped_text(alloc, format, &encrypted)
 }
 
-/// The keyset that a master decrypts of a file that `wrapped` made, or Tink, with the associated data, as a file of
-/// keys of this format.
+/// The keyset that a master decrypts with the associated data, as a file of keys of this format. `wrapped` or Tink
+/// made the encrypted file.
 ///
 /// # Errors
-/// `BadJson` exactly where the file is JSON by its first byte, and spells no encrypted keyset; `BadKeyset` exactly
-/// where it is none, and spells no encrypted keyset; then `MasterFailed` exactly where no key of the master decrypts
-/// it with this data; then `BadKeyset` and `InvalidKeyset` exactly where what is decrypted is no keyset that a handle
-/// may hold. `OutOfMemory` may come in place of each.
+/// Exactly if the file spells no encrypted keyset, `BadJson` if it is JSON by its first byte, and else
+/// `BadKeyset`. Then `MasterFailed` exactly if no key of the master decrypts it with this data. Then `BadKeyset`
+/// and `InvalidKeyset` exactly if the plaintext is no keyset that a handle may hold. `OutOfMemory` may come in
+/// place of each.
 pub fn unwrapped(
     alloc: Global,
     master: &Master,

@@ -163,7 +163,7 @@ impl DeterministicAead for AesSiv {
         Ok(Bytes::from_vec(out))
     }
 
-    /// The text of which `ciphertext` is the encryption with this associated data (RFC 5297, 2.7).
+    /// The text whose encryption with this associated data is `ciphertext` (RFC 5297, 2.7).
     ///
     /// # Errors
     /// `TooShort` exactly where it has fewer than 16 bytes, and else `DecryptFailed` exactly where it is the encryption
@@ -182,9 +182,9 @@ impl DeterministicAead for AesSiv {
     ghost decrypts_told = { aes_siv_decrypts_told };
 }
 
-/// AES-SIV decrypts an input to a text exactly where the input is the text's encryption with this data; it refuses by
-/// `TooShort` exactly an input of fewer than 16 bytes, and by `DecryptFailed` exactly any other that is the encryption
-/// of no text. No input is the encryption of two.
+/// AES-SIV decrypts an input to a text exactly if the input is the text's encryption with this data. The error is
+/// `TooShort` exactly if the input has fewer than 16 bytes. It is `DecryptFailed` exactly if a longer input is the
+/// encryption of no text. No input is the encryption of two.
 pub fn law_aes_siv()
     ensures accepts { DecryptsExactly }
     ensures too_short { RefusesShort }

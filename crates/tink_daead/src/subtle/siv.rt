@@ -12,20 +12,22 @@ use cipher_stream::{StreamCipher, StreamCipherCore, StreamCipherCoreWrapper};
 use ctr::{CtrCore, flavors};
 use hash_keys::s2v_into;
 
-// The bytes of V.
+/// The bytes of the synthetic initialization vector V (RFC 5297, section 2.6).
 pub const SIV_SIZE: usize = 16;
 
 // What the first counter block keeps of two bytes of V (2.6).
 const KEPT_BITS: u8 = 0x7f;
 
-// A cipher under each of two keys: the first makes V, the second encrypts.
+/// A cipher under each of two keys: the first computes V, the second encrypts (RFC 5297, section 2.6).
 #[derive(Drop)]
 pub struct SivPair<C> {
+    /// The cipher that computes V.
     pub mac: C,
+    /// The cipher of the counter mode.
     pub counter: C,
 }
 
-// The ciphers under two keys, where both have the size of the cipher's.
+/// The ciphers under two keys, if each key has the cipher's size in bytes.
 pub fn pair_of<C: KeyInit<K> + Drop, const K: usize>(
     mac: &[u8],
     counter: &[u8],
@@ -75,7 +77,7 @@ fn is_same(a: &[u8; SIV_SIZE], b: &[u8; SIV_SIZE]) -> bool
 }
 
 impl<C: BlockCipherEncrypt<16>> SivPair<C> {
-    // Fills `out` with V and the text in counter mode (2.6).
+    /// Fills `out` with V (16 bytes) and the plaintext in counter mode (RFC 5297, section 2.6).
     pub fn seal_into(&self, aad: &[u8], text: &[u8], out: &mut [u8])
         requires { length out.old ≡ 16 + length text.now }
         ensures { out.new ≡ siv (C.encrypts self.now.mac) (C.encrypts self.now.counter) aad.now text.now }
@@ -95,7 +97,8 @@ impl<C: BlockCipherEncrypt<16>> SivPair<C> {
         apply_counter_mode(&self.counter, &counter_block(v), out);
     }
 
-    // Puts the text of a ciphertext into its place, and answers whether V is that of the text (2.7).
+    /// Writes the plaintext of a ciphertext into its place, and answers whether V is that of the plaintext (RFC 5297,
+    /// section 2.7).
     pub fn open(&self, aad: &[u8], v: &[u8; SIV_SIZE], bytes: &mut [u8]) -> bool
         ensures text { bytes.new ≡ ctr (C.encrypts self.now.counter) (plus_be w128) (siv_counter v.now) bytes.old }
         ensures value { IsTrue result ↔ (s2v (C.encrypts self.now.mac) aad.now bytes.new ≡ v.now) }

@@ -17,9 +17,9 @@ const FIRST: &[u8] = b"\n{\"id\":";
 // What each other object begins with.
 const NEXT: &[u8] = b",\n{\"id\":";
 
-/// The keys of a keyset in the wire format as an array of JSON (RFC 8259), with no key material: an object a line, in the
-/// order of the keyset. Its members are `id`, a number; `status`, `prefix` and `type`, the words that `list` has; and
-/// `primary`, whether the id is the primary one.
+/// The keys of a keyset in the wire format as an array of JSON (RFC 8259), with no key material. It has an object a
+/// line, in the order of the keyset. Its members are `id`, a number; `status`, `prefix` and `type`, the words that
+/// `list` has; and `primary`, whether the id is the primary one.
 ///
 /// # Errors
 /// Those of `list`.

@@ -13,12 +13,12 @@ use tink_proto::{Bytes, KeyInfo};
 // What the types of Tink's keys begin with.
 const TINK: &[u8] = b"type.googleapis.com/google.crypto.tink.";
 
-/// The keys of a keyset in the wire format, one a line, with no key material: the id, the status, the prefix type and
-/// the type of the key, and whether its id is the primary one. Between them stand tabs.
+/// The keys of a keyset in the wire format, one a line, with no key material. A line has the key's id, status, prefix
+/// type and type, and whether its id is the primary one. Tabs separate them.
 ///
 /// # Errors
-/// `BadKeyset` exactly where the bytes spell no keyset; `InvalidKeyset` exactly where it has no key or no handle may
-/// hold it; `OutOfMemory` may come in place of each.
+/// `BadKeyset` exactly if the bytes spell no keyset. `InvalidKeyset` exactly if it has no key or no handle may hold
+/// it. `OutOfMemory` may come in place of each.
 pub fn list(alloc: Global, keyset: &[u8]) -> Result<Bytes, TinkError>
     ensures { Answers result (listed keyset.now) }
 {

@@ -19,8 +19,9 @@ const MOST_MARKS: usize = 1048576;
 /// format, and 80 in memory.
 ///
 /// # Errors
-/// `KeysetTooLong` exactly if a file in the wire format has more than 65,536 keys, or one in JSON more than 1,048,576 commas,
-/// colons and opening brackets; `BadKeyset` exactly if a file that is not JSON by its first byte spells no fields.
+/// `KeysetTooLong` exactly if a file in the wire format has more than 65,536 keys, or one in JSON more than 1,048,576
+/// marks. Marks are commas, colons and opening brackets. `BadKeyset` exactly if a file that is not JSON by its first
+/// byte spells no fields.
 pub fn check_room(file: &[u8]) -> Result<(), TinkError>
     ensures { Tells result (room_of file.now) }
 {

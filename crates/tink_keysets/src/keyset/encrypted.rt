@@ -37,8 +37,8 @@ impl Handle {
     /// A handle of the encrypted keyset that is read, which `master` decrypts with the associated data.
     ///
     /// # Errors
-    /// The reader's; then `MasterFailed` exactly where the master refuses; then `BadKeyset` exactly where what it
-    /// gives isn't a keyset in the wire format; then `InvalidKeyset` exactly where a key that isn't destroyed has no
+    /// Those of the reader. Then `MasterFailed` exactly if the master refuses. Then `BadKeyset` exactly if the
+    /// plaintext is no keyset in the wire format. Then `InvalidKeyset` exactly if a key that is not destroyed has no
     /// data, or data has a material outside 0 to 4. `OutOfMemory` may come in place of each.
     pub fn read_with_associated_data<R: Reader, A: Aead>(
         alloc: Global,
@@ -82,12 +82,12 @@ impl Handle {
         self.write_with_associated_data(alloc, writer, master, &[], draws)
     }
 
-    /// Writes the bytes of the keyset, encrypted by `master` with the associated data, and what may be shown of it as
-    /// `keyset_info` tells it.
+    /// Writes the bytes of the keyset, encrypted by `master` with the associated data, and the keyset info in the
+    /// clear.
     ///
     /// # Errors
-    /// `MasterFailed` exactly where the master refuses, and then the writer is as before; then the writer's, to which
-    /// the encrypted keyset alone was given: what it has of that one its type says by `refused_encrypted`.
+    /// `MasterFailed` exactly if the master refuses: the writer is then as before. Then those of the writer, to which
+    /// only the encrypted keyset was given. Its type says by `refused_encrypted` how much of it the writer then has.
     /// `OutOfMemory` may come in place of each.
     pub fn write_with_associated_data<W: Writer, A: Aead>(
         &self,

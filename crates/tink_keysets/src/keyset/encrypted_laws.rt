@@ -18,6 +18,10 @@ use tink_primitives::Aead;
 ///
 /// Under the same data the same keyset is read, where the master's decryption undoes its encryption. Under data for
 /// which the master refuses what it encrypted, the answer is `MasterFailed`. The draws left are the master's.
+///
+/// # Errors
+/// `MasterFailed` under the same data if the master refuses to encrypt, and under other data if it refuses to decrypt.
+/// `OutOfMemory` may come in place of each.
 pub fn law_written_is_read<A: Aead>(
     alloc: Global,
     h: &Handle,

@@ -66,9 +66,9 @@ impl Handle {
     /// A handle of the public parts of the keys, which must all be private.
     ///
     /// # Errors
-    /// For the first key that gives none: `InvalidKeyset` where it has no data; `NotPrivate` where its material isn't
-    /// 2; `UnsupportedKeyType` where no manager has its URL; `NoPrivateKeys` where the manager has no private keys;
-    /// else the manager's. `OutOfMemory` may come in place of each.
+    /// For the first key that gives none: `InvalidKeyset` if it has no data. `NotPrivate` if its material is not 2.
+    /// `UnsupportedKeyType` if no manager has its URL. `NoPrivateKeys` if the manager has no private keys. Else the
+    /// manager's. `OutOfMemory` may come in place of each.
     pub fn public<M: KeyManager>(
         &self,
         alloc: Global,
@@ -89,8 +89,8 @@ impl Handle {
     /// A handle of a keyset without secrets.
     ///
     /// # Errors
-    /// `InvalidKeyset` exactly where a key that isn't destroyed has no data, or data has a material outside 0
-    /// to 4; then `HasSecrets` exactly where some data has material 0, 1 or 2.
+    /// `InvalidKeyset` exactly if a key that is not destroyed has no data, or data has a material outside 0
+    /// to 4. Then `HasSecrets` exactly if some data has material 0, 1 or 2.
     pub fn new_with_no_secrets(ks: Keyset) -> Result<Handle, TinkError>
         ensures { Tells result (handle_without_secrets ks) }
     {
@@ -107,8 +107,8 @@ impl Handle {
     /// The set of the enabled keys' primitives, each built by the registry's manager of its URL.
     ///
     /// # Errors
-    /// `InvalidKeyset` where the keyset isn't validated; then, for the first enabled key that doesn't build,
-    /// `InvalidKey` where its value is empty, `UnsupportedKeyType` where no manager has its URL, else the manager's.
+    /// `InvalidKeyset` if the keyset is not valid. Then that of the first enabled key that does not build:
+    /// `InvalidKey` if its value is empty, `UnsupportedKeyType` if no manager has its URL, else the manager's.
     /// `OutOfMemory` may come in place of each.
     pub fn primitives<M: KeyManager>(
         &self,
@@ -121,8 +121,8 @@ impl Handle {
         self.primitives_with_key_manager(alloc, registry, no_manager(registry))
     }
 
-    /// The set of the enabled keys' primitives. Where a manager is given, it alone decides each key for whose URL its
-    /// `does_support` says true, also on an empty value; the registry isn't asked for such a key.
+    /// The set of the enabled keys' primitives. If a manager is given, it alone builds each key for whose URL its
+    /// `does_support` is true, also one with an empty value. The registry has no part in these keys.
     ///
     /// # Errors
     /// As `primitives`, and the given manager's.
@@ -199,7 +199,7 @@ fn no_manager<'a, M>(_registry: &'a Registry<M>) -> Option<&'a M>
     None
 }
 
-/// What `keyset_info` tells, and so no key material.
+/// Shows the keyset info, and so no key material.
 impl fmt::Debug for Handle {
     ghost debug_output = { λ h. Some (info_text (secrets.keyset_info h)) };
 

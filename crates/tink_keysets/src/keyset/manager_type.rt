@@ -170,13 +170,14 @@ impl Manager {
         Ok(())
     }
 
-    /// Adds an enabled key by a template, as the primary one or not, and answers its id, which isn't 0 and which
-    /// no key had. The key's bytes are drawn first, then ids of four draws, at most 128, until one is free.
+    /// Adds an enabled key by a template, as the primary one or not, and answers its id. The id is not 0, and no
+    /// key has it before the call. The key's bytes are drawn first, then ids of four draws, at most 128, until
+    /// one is free.
     ///
     /// # Errors
-    /// `UnsupportedKeyType` where no manager has the template's URL; `UnknownPrefix` where its prefix type isn't 1 to
-    /// 4; the manager's; `RandomFault` where too few draws are left for an id; `NoFreshId` where all 128 ids were 0 or
-    /// in use; and `OutOfMemory`. A refusal changes no key, and draws that were taken stay taken.
+    /// `UnsupportedKeyType` if no manager has the template's URL. `UnknownPrefix` if its prefix type is not 1 to 4.
+    /// Those of the manager. `RandomFault` if too few random bytes are left for an id. `NoFreshId` if all 128 ids were
+    /// 0 or in use. `OutOfMemory`. A refusal changes no key, and draws that were taken stay taken.
     pub fn add<M: KeyManager>(
         &mut self,
         alloc: Global,

@@ -44,9 +44,9 @@ impl AesCmac {
     /// AES-CMAC under a key, with tags of `tag_size` bytes.
     ///
     /// # Errors
-    /// The first that applies: `BadKeySize` where the key has fewer than 16 bytes; `BadTagSize` where a tag has fewer
-    /// than 10 bytes or more than 16; `BadKeySize` where the key has not 16, 24 or 32 bytes. `OutOfMemory` may come in
-    /// place of each.
+    /// The first that applies: `BadKeySize` if the key has fewer than 16 bytes. Then `BadTagSize` if a tag has fewer
+    /// than 10 bytes or more than 16. Then `BadKeySize` if the key has not 16, 24 or 32 bytes. `OutOfMemory` may come
+    /// in place of each.
     pub fn new(alloc: Global, key: &[u8], tag_size: usize) -> Result<AesCmac, TinkError>
         ensures { Answers result (cmac_tags key.now tag_size) }
     {

@@ -65,8 +65,8 @@ impl Hmac {
 /// Whether there is an HMAC with this hash, a key and tags of these sizes in bytes.
 ///
 /// # Errors
-/// `UnknownHash` exactly for the unknown hash; then `BadTagSize` exactly where a tag has fewer than 10 bytes or more
-/// than a digest; then `BadKeySize` exactly where the key has fewer than 16 bytes.
+/// `UnknownHash` exactly for the unknown hash. Then `BadTagSize` exactly if a tag has fewer than 10 bytes or more
+/// than a digest. Then `BadKeySize` exactly if the key has fewer than 16 bytes.
 pub fn validate_hmac_params(
     hash: HashType,
     key_size: usize,

@@ -16,8 +16,8 @@ use tink_io::{Kind, TinkError};
 use tink_primitives::Mac;
 use tink_proto::{Bytes, Text};
 
-/// The token of `payload`: its spelling in base64url without padding (RFC 4648, section 5), a dot, and the spelling of
-/// the primary key's MAC of the payload's spelling.
+/// The token of `payload`: its spelling, a dot, and the spelling of the primary key's MAC of the payload's spelling.
+/// Spellings are in base64url without padding (RFC 4648, section 5).
 ///
 /// # Errors
 /// As the primary key's MAC, which is `OutOfMemory` alone for the MACs of `tink_mac`.

@@ -1,4 +1,4 @@
-//! Spellings of bytes, and what stands at both sides of a token's dot.
+//! Spellings of bytes, and the two sides of a token's dot.
 
 ghost use Rattle.std.specs.Prelude.{◌≡◌, nat_eq, position, List, ℕ, MatchOption};
 ghost use Rattle.tink_mac.specs.Reading.{IsRead, IsSplit};
@@ -17,7 +17,7 @@ fn first_dot(token: &[u8]) -> Option<usize>
     token.iter().position(|byte| *byte == b'.')
 }
 
-// What stands before the first dot, and what behind it.
+/// The bytes before the first dot of a token, and those behind it.
 pub fn halves(token: &[u8]) -> Option<(&[u8], &[u8])>
     ensures { MatchOption result ((p m : List ℕ) → token.now ≡ token_of p m → ⊥)
         (λ h. IsSplit token.now h.0.now h.1.now) }
@@ -28,7 +28,10 @@ pub fn halves(token: &[u8]) -> Option<(&[u8], &[u8])>
     }
 }
 
-// The bytes that a text spells; `BadToken` where it is no spelling.
+/// The bytes that a text spells in base 64url without padding (RFC 4648, section 5).
+///
+/// # Errors
+/// `BadToken` exactly if the text spells no bytes, or `OutOfMemory`.
 pub fn read(alloc: Global, text: &[u8]) -> Result<Bytes, TinkError>
     ensures { IsRead text.now result }
 {

@@ -10,7 +10,9 @@ use std::alloc::{AllocError, Global};
 /// A keyset without the data of its keys.
 #[derive(Drop)]
 pub struct KeysetInfo {
+    /// The id of the primary key.
     pub primary_key_id: u32,
+    /// The keys, without their data.
     pub key_info: Repeated<KeyInfo>,
 }
 
@@ -51,9 +53,11 @@ impl Message for KeysetInfo {
 /// A key without its data.
 #[derive(Drop)]
 pub struct KeyInfo {
+    /// The URL of the key.
     pub type_url: Text,
     /// A number of `KeyStatusType`.
     pub status: i32,
+    /// The id of the key.
     pub key_id: u32,
     /// A number of `OutputPrefixType`.
     pub output_prefix_type: i32,
@@ -106,6 +110,7 @@ impl Message for KeyInfo {
 pub struct EncryptedKeyset {
     /// The encryption of the bytes of a keyset.
     pub encrypted_keyset: Bytes,
+    /// The keyset without the data of its keys.
     pub keyset_info: Option<KeysetInfo>,
 }
 

@@ -7,11 +7,12 @@ use crate::wire::{
 use crate::{Bytes, ProtoError, Repeated, Text};
 use std::alloc::{AllocError, Global};
 
-/// Keys, of which one is the primary.
+/// A keyset: keys, and the id of the primary one.
 #[derive(Drop)]
 pub struct Keyset {
-    /// The id of the key that makes what is new.
+    /// The id of the key that encrypts, signs or computes.
     pub primary_key_id: u32,
+    /// The keys, in order.
     pub key: Repeated<Key>,
 }
 
@@ -56,6 +57,7 @@ pub struct Key {
     pub key_data: Option<KeyData>,
     /// A number of `KeyStatusType`.
     pub status: i32,
+    /// The id of the key.
     pub key_id: u32,
     /// A number of `OutputPrefixType`.
     pub output_prefix_type: i32,

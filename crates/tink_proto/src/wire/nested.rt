@@ -6,7 +6,10 @@ use crate::wire::Message;
 use crate::{ProtoError, Repeated};
 use std::alloc::Global;
 
-/// The same messages again. Its error is `OutOfMemory` alone.
+/// Equal messages, in the same order.
+///
+/// # Errors
+/// `OutOfMemory` alone.
 pub fn clone_list<M: Message>(
     messages: &Repeated<M>,
     alloc: Global,
@@ -23,7 +26,10 @@ pub fn clone_list<M: Message>(
     Ok(out)
 }
 
-/// The same message again, where there is one. Its error is `OutOfMemory` alone.
+/// An equal message, if there is one.
+///
+/// # Errors
+/// `OutOfMemory` alone.
 pub fn clone_option<M: Message>(message: &Option<M>, alloc: Global) -> Result<Option<M>, ProtoError>
     ensures same { IfOk result (λ o. o ≡ message.now) }
     ensures err { IfErr result (λ e. e ≡ ProtoError.OutOfMemory) }

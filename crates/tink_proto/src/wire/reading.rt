@@ -25,7 +25,9 @@ pub enum Content<'a> {
 /// A field and its number, which is from 1 to 2^29 - 1.
 #[derive(Clone, Copy)]
 pub struct Field<'a> {
+    /// The number, from 1 to 2^29 - 1.
     pub number: u32,
+    /// The content, by its type in the wire format.
     pub content: Content<'a>,
 }
 
@@ -89,8 +91,8 @@ fn content_from(wire_type: u64, bytes: &[u8]) -> Option<(Content<'_>, &[u8])>
     None
 }
 
-/// The first field, and what follows. `None` where no field of the grammar stands in front: it is cut off, its number
-/// is 0, its key is 2^32 or more, or its type is 3, 4, 6 or 7.
+/// The first field, and what follows. `None` if the bytes begin with no field of the grammar. It is cut off, its
+/// number is 0, its key is 2^32 or more, or its type is 3, 4, 6 or 7.
 #[tactic(auto, unfolding(wire_format::specs::Reading::field_at))]
 pub fn next_field(bytes: &[u8]) -> Option<(Field<'_>, &[u8])>
     ensures { MatchOption result (field_at bytes.now ≡ None)
@@ -109,7 +111,10 @@ pub fn next_field(bytes: &[u8]) -> Option<(Field<'_>, &[u8])>
 }
 
 impl<'a> Content<'a> {
-    /// A number of 32 bits, the low ones of a varint; another type is `BadMessage`.
+    /// A number of 32 bits: the low ones of a varint.
+    ///
+    /// # Errors
+    /// `BadMessage` exactly if the content has another wire type.
     pub fn number(&self) -> Result<u32, ProtoError>
         ensures { Reads BadMessage result (as_number (content_of self.now)) }
     {
@@ -119,7 +124,10 @@ impl<'a> Content<'a> {
         }
     }
 
-    /// The number of an enum, the low 32 bits of a varint; another type is `BadMessage`.
+    /// The number of an enum: the low 32 bits of a varint, as a signed number.
+    ///
+    /// # Errors
+    /// `BadMessage` exactly if the content has another wire type.
     pub fn enum_number(&self) -> Result<i32, ProtoError>
         ensures { Reads BadMessage result (as_enum (content_of self.now)) }
     {
@@ -129,7 +137,10 @@ impl<'a> Content<'a> {
         }
     }
 
-    /// The bytes of a body; another type is `BadMessage`.
+    /// The bytes of a body.
+    ///
+    /// # Errors
+    /// `BadMessage` exactly if the content has another wire type.
     pub fn body(&self) -> Result<&'a [u8], ProtoError>
         ensures { ReadsAs BadMessage (λ b. b.now) result (as_bytes (content_of self.now)) }
     {
@@ -139,7 +150,10 @@ impl<'a> Content<'a> {
         }
     }
 
-    /// The text of a body; another type, and bytes that are not UTF-8, are `BadMessage`.
+    /// The text of a body.
+    ///
+    /// # Errors
+    /// `BadMessage` exactly if the content has another wire type or is not UTF-8.
     pub fn text(&self) -> Result<&'a str, ProtoError>
         ensures { ReadsAs BadMessage (λ b. b.now) result (as_text (content_of self.now)) }
     {

@@ -12,7 +12,10 @@ use crate::{Bytes, ProtoError, Repeated, Text};
 use std::alloc::Global;
 use wire_format::take_or_start;
 
-/// Reads a number of 32 bits. After an `Err` the field is as before.
+/// Reads a number of 32 bits into a field.
+///
+/// # Errors
+/// `BadMessage` exactly if the content is no varint. The field is then as before.
 pub fn read_number(slot: &mut u32, content: &Content) -> Result<(), ProtoError>
     ensures reads { Becomes BadMessage result slot.new (as_number (content_of content.now)) }
     ensures err { OnErr result (slot.new ≡ slot.old) }
@@ -21,7 +24,10 @@ pub fn read_number(slot: &mut u32, content: &Content) -> Result<(), ProtoError>
     Ok(())
 }
 
-/// Reads the number of an enum. After an `Err` the field is as before.
+/// Reads the number of an enum into a field.
+///
+/// # Errors
+/// `BadMessage` exactly if the content is no varint. The field is then as before.
 pub fn read_enum(slot: &mut i32, content: &Content) -> Result<(), ProtoError>
     ensures reads { Becomes BadMessage result slot.new (as_enum (content_of content.now)) }
     ensures err { OnErr result (slot.new ≡ slot.old) }
@@ -30,7 +36,10 @@ pub fn read_enum(slot: &mut i32, content: &Content) -> Result<(), ProtoError>
     Ok(())
 }
 
-/// Reads bytes. After an `Err` the field is as before.
+/// Reads bytes into a field.
+///
+/// # Errors
+/// `BadMessage` exactly if the content is no body, or `OutOfMemory`. The field is then as before.
 pub fn read_bytes(slot: &mut Bytes, alloc: Global, content: &Content) -> Result<(), ProtoError>
     ensures reads { Becomes BadMessage result slot.new (as_bytes (content_of content.now)) }
     ensures err { OnErr result (slot.new ≡ slot.old) }
@@ -39,7 +48,10 @@ pub fn read_bytes(slot: &mut Bytes, alloc: Global, content: &Content) -> Result<
     Ok(())
 }
 
-/// Reads text. After an `Err` the field is as before.
+/// Reads text into a field.
+///
+/// # Errors
+/// `BadMessage` exactly if the content is no body in UTF-8, or `OutOfMemory`. The field is then as before.
 pub fn read_text(slot: &mut Text, alloc: Global, content: &Content) -> Result<(), ProtoError>
     ensures reads { Becomes BadMessage result slot.new (as_text (content_of content.now)) }
     ensures err { OnErr result (slot.new ≡ slot.old) }
@@ -48,7 +60,11 @@ pub fn read_text(slot: &mut Text, alloc: Global, content: &Content) -> Result<()
     Ok(())
 }
 
-/// Reads a body into the message that stands there, or into a new one. After an `Err` none stands there.
+/// Reads a body into the message of a field, or into a new one if the field has none.
+///
+/// # Errors
+/// `BadMessage` if the content is no body or a body that is not the message, or `OutOfMemory`. The field has no
+/// message then.
 pub fn read_message<M: Message>(
     slot: &mut Option<M>,
     alloc: Global,
@@ -64,7 +80,11 @@ pub fn read_message<M: Message>(
     Ok(())
 }
 
-/// Reads a body as one more message of a list. After an `Err` the list is as before.
+/// Reads a body as one more message of a list.
+///
+/// # Errors
+/// `BadMessage` if the content is no body or a body that is not the message, or `OutOfMemory`. The list is then as
+/// before.
 pub fn read_list<M: Message>(
     list: &mut Repeated<M>,
     alloc: Global,

@@ -69,6 +69,9 @@ fn put_body(out: &mut Vec<u8>, number: u32, bytes: &[u8]) -> Result<(), AllocErr
 }
 
 /// Writes a number of 32 bits, if it is not 0.
+///
+/// # Errors
+/// `AllocError` if there is no memory.
 pub fn put_number(out: &mut Vec<u8>, number: u32, value: u32) -> Result<(), AllocError>
     ensures bytes { OnOk result (out.new.items ≡ out.old.items ++ spelling (map (at number) (unless_zero value))) }
     ensures fits { OnOk result (IsTrue (fits_number value)) }
@@ -77,6 +80,9 @@ pub fn put_number(out: &mut Vec<u8>, number: u32, value: u32) -> Result<(), Allo
 }
 
 /// Writes the number of an enum, if it is not 0; below 0 as its 64 bits.
+///
+/// # Errors
+/// `AllocError` if there is no memory.
 pub fn put_enum(out: &mut Vec<u8>, number: u32, value: i32) -> Result<(), AllocError>
     ensures bytes { OnOk result (out.new.items
         ≡ out.old.items ++ spelling (map (at number) (unless_zero (cast_unsigned w64 value)))) }
@@ -86,6 +92,9 @@ pub fn put_enum(out: &mut Vec<u8>, number: u32, value: i32) -> Result<(), AllocE
 }
 
 /// Writes bytes, if there are some.
+///
+/// # Errors
+/// `AllocError` if there is no memory.
 pub fn put_bytes(out: &mut Vec<u8>, number: u32, bytes: &[u8]) -> Result<(), AllocError>
     ensures bytes { OnOk result (out.new.items ≡ out.old.items ++ spelling (map (at number) (unless_empty bytes.now))) }
     ensures fits { OnOk result (IsTrue (fits_bytes bytes.now)) }
@@ -97,6 +106,9 @@ pub fn put_bytes(out: &mut Vec<u8>, number: u32, bytes: &[u8]) -> Result<(), All
 }
 
 /// Writes text, if there is some.
+///
+/// # Errors
+/// `AllocError` if there is no memory.
 pub fn put_text(out: &mut Vec<u8>, number: u32, text: &str) -> Result<(), AllocError>
     ensures bytes { OnOk result (out.new.items ≡ out.old.items ++ spelling (map (at number) (unless_empty text.now))) }
     ensures fits { OnOk result (IsTrue (fits_text text.now)) }
@@ -121,7 +133,10 @@ fn put_nested<M: Message>(
     put_body(out, number, &fields)
 }
 
-/// Writes a single message, where there is one.
+/// Writes a single message, if there is one.
+///
+/// # Errors
+/// `AllocError` if there is no memory.
 pub fn put_message<M: Message>(
     out: &mut Vec<u8>,
     alloc: Global,
@@ -139,6 +154,9 @@ pub fn put_message<M: Message>(
 }
 
 /// Writes each message of a repeated field.
+///
+/// # Errors
+/// `AllocError` if there is no memory.
 pub fn put_list<M: Message>(
     out: &mut Vec<u8>,
     alloc: Global,

@@ -1,4 +1,4 @@
-//! What is known of a stream under a keyset.
+//! The key and the sizes of a stream under a keyset.
 
 ghost use Rattle.std.specs.Prelude.{◌≡◌};
 ghost use Rattle.tink_range.specs.Objects.{LeavesObject};
@@ -11,10 +11,10 @@ use tink_io::TinkError;
 use tink_range::{ReadAt, Steps};
 use tink_run::load::load;
 
-/// What is known of the stream that `object` is under the first key of a keyset in the wire format that it begins under,
-/// with the associated data: the key's id, the segments, the bytes of the plaintext and those of a whole segment. Only
-/// the first and the last segment are opened, so that an object that was cut is refused, and what lies between them is
-/// not checked.
+/// The key and the sizes of the stream that `object` is, under a keyset in the wire format and the associated data.
+/// They are the key's id, the segments, the bytes of the plaintext and those of a whole segment. The key is the first
+/// under which the stream begins. Only the first and the last segment are opened. So an object that was cut is
+/// refused, and the segments between them are not checked.
 ///
 /// # Errors
 /// The first that applies: the refusals of loading the keyset, `BadKeyset`, `InvalidKeyset`, `UnsupportedKeyType`,

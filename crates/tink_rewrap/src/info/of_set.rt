@@ -1,4 +1,4 @@
-//! What is known of a stream under the keys of a set.
+//! The key and the sizes of a stream under the keys of a set.
 
 ghost use Rattle.std.specs.Prelude.{◌≡◌, ◌≤◌, ◌+◌, length, map};
 ghost use Rattle.tink_range.specs.Objects.{LeavesObject};
@@ -33,13 +33,14 @@ fn keeps_entries(set: &TypedPrimitiveSet<StreamKind>)
     let _ = (&set.entries).into_iter();
 }
 
-/// What is known of the stream that `object` is under the first key of a set that it begins under. Only its first and
-/// its last segment are opened. At most a step is taken for each key, and one for the last segment.
+/// The key and the sizes of the stream that `object` is. The key is the first of the set under which the stream
+/// begins. Only its first and its last segment are opened. At most a step is taken for each key, and one for the last
+/// segment.
 ///
 /// # Errors
-/// `OutOfMemory` before anything was read; `NoMatchingKey` where the object begins under no key; `TooManySegments` where
-/// it has more than 2^32 segments; `Truncated` or `BadSegment` where the last one is the segment of no text, the first
-/// where it is shorter than any segment; `ReadFault` where the object failed.
+/// `OutOfMemory` before anything was read. `NoMatchingKey` if the object begins under no key. `TooManySegments` if it
+/// has more than 2^32 segments. If the last one is the segment of no text, `Truncated` if it is shorter than any
+/// segment, and else `BadSegment`. `ReadFault` if the object failed.
 pub fn info_of_set<A: ReadAt, L: Ledger>(
     alloc: Global,
     set: &TypedPrimitiveSet<StreamKind>,

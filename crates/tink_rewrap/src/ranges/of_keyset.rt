@@ -13,14 +13,14 @@ use tink_io::{Sink, TinkError};
 use tink_range::{ReadAt, Steps};
 use tink_run::load::load;
 
-/// Writes the bytes of the text from place `start` on and below `start + len`, as far as there are such, of the stream
-/// that `object` is under the first key of a keyset in the wire format that it begins under, with the associated data.
-/// It answers how many.
+/// Writes a range of the text of the stream that `object` is: the bytes from place `start` on and below `start + len`
+/// that there are. The keyset is in the wire format. The key is the first under which the stream begins with the
+/// associated data. It answers how many.
 ///
 /// # Errors
-/// The first that applies: the refusals of loading the keyset, `BadKeyset`, `InvalidKeyset`, `UnsupportedKeyType`,
-/// `InvalidKey`, `NoPrimary` and `WrongPrimitive`, with nothing read or written; then those of `range_of_set`.
-/// `OutOfMemory` comes before anything was read or written.
+/// Those of loading the keyset, with nothing read or written: `BadKeyset`, `InvalidKeyset`, `UnsupportedKeyType`,
+/// `InvalidKey`, `NoPrimary` and `WrongPrimitive`. Then those of `range_of_set`. `OutOfMemory` comes before
+/// anything was read or written.
 pub fn run_range<A: ReadAt, K: Sink, L: Ledger>(
     alloc: Global,
     keyset: &[u8],

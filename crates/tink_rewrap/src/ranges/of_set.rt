@@ -20,15 +20,18 @@ use tink_sets::TypedPrimitiveSet;
 use tink_streaming_aead::{AES_CTR_HMAC_NONCE_SIZE_IN_BYTES, entries_of, room_of};
 use tink_streaming_keys::{DerivesStreams, StreamKind, Trial};
 
-/// Writes the bytes of the text from place `start` on and below `start + len`, as far as there are such, of the stream
-/// that `object` is under the first key of a set that it begins under. It answers how many. At most a step is taken for
-/// each key and, where one is chosen, for each chunk that the range's own length fills and two more.
+/// Writes a range of the text of the stream that `object` is: the bytes from place `start` on and below `start + len`
+/// that there are. The key is the first of the set under which the stream begins. It answers how many. At most a step
+/// is taken for each key. If one is chosen, at most a step more is taken for each chunk that the range's own length
+/// fills, and two more.
 ///
 /// # Errors
-/// `OutOfMemory` before anything was read or written; `NoMatchingKey` where the object begins under no key,
-/// `TooManySegments` where it has more than 2^32 chunks, `Truncated` or `BadSegment` where the last chunk is the
-/// segment of no text, all with nothing written; `BadSegment` of the first touched chunk that is the segment of no
-/// text, with the range's bytes before it written; `ReadFault` and `WriteFault` where an end failed.
+/// - With nothing written: `OutOfMemory`, and nothing was read. `NoMatchingKey` if the object begins under no key.
+///   `TooManySegments` if it has more than 2^32 chunks. `Truncated` or `BadSegment` if the last chunk is the
+///   segment of no text.
+/// - `BadSegment` of the first touched chunk that is the segment of no text. The range's bytes before it are
+///   written then.
+/// - `ReadFault` and `WriteFault` if an end failed.
 pub fn range_of_set<A: ReadAt, K: Sink, L: Ledger>(
     alloc: Global,
     set: &TypedPrimitiveSet<StreamKind>,

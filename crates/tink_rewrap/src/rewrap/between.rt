@@ -21,13 +21,13 @@ use tink_streaming_keys::{StreamKind, Trial, prepare_stream};
 /// another key.
 ///
 /// # Errors
-/// `OutOfMemory` before anything was read, written or drawn; then `RandomFault` where too few draws
-/// are left for the new stream, which stay, and `UnsupportedHash` where its key derives nothing,
-/// with nothing read or written; then, with the draws taken:
+/// `OutOfMemory` before anything was read, written or drawn. Then `RandomFault` if too few draws are left for
+/// the new stream: they stay. Then `UnsupportedHash` if its key derives nothing. Nothing is read or written
+/// by these. Then, with the draws taken:
 /// - `NoMatchingKey` where the source begins under no key of the set, with nothing written;
-/// - `TooManySegments` where the text needs more than 2^32 segments, or bytes follow 2^32 segments
-///   of the source; `Truncated` and `BadSegment` where a later segment is shorter than a tag or that
-///   of no text: what was written has no last segment;
+/// - `TooManySegments` if the text needs more than 2^32 segments, or bytes follow 2^32 segments of the
+///   source. `Truncated` and `BadSegment` if a later segment is shorter than a tag or that of no text. What
+///   was written has no last segment then;
 /// - `ReadFault` and `WriteFault` where an end failed.
 pub fn rewrap_between<S: Source, K: Sink>(
     alloc: Global,

@@ -45,9 +45,8 @@ fn finish<K: Sink, E: SegmentEncrypter + Drop>(
 /// of them was opened.
 ///
 /// # Errors
-/// ReadFault and NoMatchingKey of `open_first`, with nothing written; then WriteFault; those of the
-/// reader behind the first segment, with the new stream left without a last one; TooManySegments
-/// of the writer.
+/// `ReadFault` and `NoMatchingKey` of `open_first`, with nothing written. Then `WriteFault`. Those of the
+/// reader behind the first segment: the new stream then has no last segment. `TooManySegments` of the writer.
 pub fn pass<S: Source, K: Sink, D: SegmentDecrypter + Drop, E: SegmentEncrypter + Drop>(
     reader: &mut SegmentReader<D>,
     front: &Front<'_>,

@@ -19,11 +19,11 @@ use tink_run::report::Report;
 use tink_sets::TypedPrimitiveSet;
 use tink_streaming_keys::StreamKind;
 
-/// Moves the stream that a source has left from one keyset to another: it is opened by the first
-/// key of `from` that it begins under, with `from_aad`, and its text becomes a new stream under the
-/// primary key of `to`, with `to_aad`, whose salt and prefix are the first draws. Both keysets are
-/// in the wire format. In the body the text stands nowhere but in one segment of each stream. The
-/// report has the segments that were written, and the bytes of text.
+/// Moves the stream that a source has left from one keyset to another. The first key of `from` under which
+/// the stream begins with `from_aad` decrypts it. Its text becomes a new stream under the primary key of `to`
+/// with `to_aad`. The salt and the nonce prefix of the new stream are the first draws. Both keysets are in
+/// the wire format. The body holds the text of one segment of each stream, and no more. The report has the
+/// segments that were written, and the bytes of text.
 ///
 /// # Errors
 /// The first that applies:
@@ -33,11 +33,11 @@ use tink_streaming_keys::StreamKind;
 ///   read, written or drawn;
 /// - `UnsupportedHash` where the primary key's hash derives nothing, with the draws taken;
 /// - `NoMatchingKey` where the source begins under no key of `from`, with nothing written;
-/// - `TooManySegments` where the text needs more than 2^32 segments: the front and all of them but
-///   the last were written, up to the number 2^32 - 2;
-/// - `TooManySegments` where bytes follow 2^32 segments of the source, `Truncated` and `BadSegment`
-///   where a later segment is shorter than a tag or that of no text: the front and the unmarked
-///   segments of the text before it were written, and no last one.
+/// - `TooManySegments` if the text needs more than 2^32 segments. The front and the segments up to the number
+///   2^32 - 2 were written then;
+/// - `TooManySegments` if bytes follow 2^32 segments of the source. `Truncated` and `BadSegment` if a later
+///   segment is shorter than a tag or that of no text. The front and the unmarked segments of the text before
+///   it were written then, and no last one.
 ///
 /// `ReadFault` and `WriteFault` come where an end failed, with the draws taken, and `OutOfMemory`
 /// before anything was read, written or drawn.

@@ -18,8 +18,7 @@ use tink_sets::cryptofmt::NON_RAW_PREFIX_SIZE;
 use tink_sets::{TypedEntry, TypedPrimitiveSet};
 use tink_streaming_keys::StreamKind;
 
-// Each list of a set has the prefix under which it is listed, where the set has some entries; and a list has all entries
-// of its prefix.
+/// A law: if a set is built of entries, each of its lists has exactly the keys of its prefix, in their order.
 pub fn own_groups(ps: &TypedPrimitiveSet<StreamKind>)
     ensures pure { (entries : List (TypedEntry StreamKind)) → AreGroupsOf typed_prefix_of entries ps.now.entries
         → ArePure ps.now.entries }
@@ -57,9 +56,9 @@ impl WrappedStreamingAead {
         }
     }
 
-    /// The entries of the keys under which a stream may begin that begins with these bytes, in their order, and the
-    /// bytes of their output prefix: those of the first five bytes where the first one is 0 or 1, else those without a
-    /// prefix. For fewer than five bytes it is those without a prefix.
+    /// The entries of the keys under which a stream with these first bytes may begin, in their order, and the bytes of
+    /// their output prefix. If the first byte is 0 or 1, they are those of the first five bytes, and else those
+    /// without a prefix. For fewer than five bytes it is those without a prefix.
     pub fn candidates(&self, start: &[u8]) -> (&[TypedEntry<StreamKind>], usize)
         ensures keys { keys_in result.0.now ≡ with_prefix (prefix_at start.now) self.now.keys }
         ensures entries { result.0.now ≡ entries_with (prefix_at start.now) self.now.entries }
