@@ -373,8 +373,8 @@ fn missing(part: Part) -> Why<'static>
     }
 }
 
-// Where the first `=` stands.
-fn equals_at(word: &[u8]) -> Option<usize>
+// Where the first `=` is.
+pub(crate) fn equals_at(word: &[u8]) -> Option<usize>
     ensures found { result ≡ equals_at word.now }
     ensures inside { IfSome result (λ i. i < length word.now) }
 {
