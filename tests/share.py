@@ -1,9 +1,11 @@
 """share.py ROOT: the files in share name every command and every option that the tables of tink_cli_words have."""
 import os
+import pty
 import re
 import shutil
 import subprocess
 import sys
+import tempfile
 
 ROOT = sys.argv[1]
 CHECKS = 0
@@ -117,9 +119,126 @@ def help_pages():
             check(any(names(page, word) for page in pages.values()), f"the help names {word}")
 
 
+def with_templates(folder):
+    """Puts a program `tink` into a folder, which lists two templates, and answers the path in which it is found."""
+    with open(os.path.join(folder, "tink"), "w") as file:
+        file.write("#!/bin/sh\nprintf 'AES_ONE\\nHMAC_TWO\\n'\n")
+    os.chmod(file.name, 0o755)
+    return {**os.environ, "PATH": folder + ":" + os.environ["PATH"]}
+
+
+def offered_by_fish(line):
+    """What fish offers for a line."""
+    file = os.path.join(ROOT, "share", "completions", "tink.fish")
+    with tempfile.TemporaryDirectory() as folder:
+        words = ["fish", "--no-config", "-c", "source $argv[1]; complete -C $argv[2]", file, line]
+        done = subprocess.run(words, capture_output=True, text=True, timeout=300, env=with_templates(folder))
+    check(done.returncode == 0 and done.stderr == "", f"fish: {line}: {done.stderr}")
+    return [row.split("\t")[0] for row in done.stdout.splitlines()]
+
+
+def fish():
+    if not shutil.which("fish"):
+        return "no fish here"
+    check(set(offered_by_fish("tink ")) == set(COMMANDS), "fish: each command is offered, and nothing else")
+    check(offered_by_fish("tink rew") == ["rewrap"], "fish: a command is completed")
+    check(offered_by_fish("tink encrypt --no-c") == ["--no-clobber"], "fish: an option is completed")
+    check(offered_by_fish("tink new X --format b") == ["binary"], "fish: a value is completed")
+    check(offered_by_fish("tink help unw") == ["unwrap"], "fish: a topic is completed")
+    check(offered_by_fish("tink new HM") == ["HMAC_TWO"], "fish: a template is completed")
+    for command in COMMANDS:
+        offered = {word for word in offered_by_fish(f"tink {command} --") if word.startswith("--")}
+        check(offered == {word for word in completed("tink", command, "-") if word.startswith("--")}, f"fish: the options of {command}: {offered}")
+    return "fish"
+
+
+def zsh_line(folder, line):
+    """The line that zsh makes of the start of one, when the key of completion is pressed."""
+    child, terminal = pty.fork()
+    if child == 0:
+        os.environ.update(with_templates(folder), TERM="dumb", ZDOTDIR=folder, LC_ALL="C")
+        os.execvp("zsh", ["zsh", "-f", "-i"])
+    os.write(terminal, b"PS1=; unsetopt prompt_cr prompt_sp; stty -echo; LISTMAX=999\n")
+    functions = os.path.join(ROOT, "share", "completions")
+    os.write(terminal, f"fpath=({functions} $fpath); autoload -Uz compinit; compinit -D -u\n".encode())
+    # The line is not run: its words are printed.
+    os.write(terminal, b"show() { BUFFER=\"print -r -- 'made:'${(q)BUFFER}\"; zle accept-line }; zle -N show; bindkey '^X' show; print rea''dy\n")
+    shown = b""
+    while b"ready" not in shown:
+        shown += os.read(terminal, 65536)
+    os.write(terminal, line.encode() + b"\t\x18")
+    while not re.search(rb"made:[^']*\n", shown):
+        shown += os.read(terminal, 65536)
+    os.close(terminal)
+    os.waitpid(child, 0)
+    return re.findall(rb"made:([^'\r\n]*)\r?\n", shown)[-1].decode().replace("\\ ", " ").strip()
+
+
+def zsh():
+    if not shutil.which("zsh"):
+        return "no zsh here"
+    with tempfile.TemporaryDirectory() as folder:
+        check(zsh_line(folder, "tink rew") == "tink rewrap", "zsh: a command is completed")
+        check(zsh_line(folder, "tink encrypt --no") == "tink encrypt --no-clobber", "zsh: an option is completed")
+        check(zsh_line(folder, "tink new X --format b") == "tink new X --format binary", "zsh: a value is completed")
+        check(zsh_line(folder, "tink help unw") == "tink help unwrap", "zsh: a topic is completed")
+        check(zsh_line(folder, "tink new HM") == "tink new HMAC_TWO", "zsh: a template is completed")
+        check(zsh_line(folder, "tink rewrap --to-") == "tink rewrap --to-aad", "zsh: an option of one command is completed")
+    return "zsh"
+
+
+def files_below(folder):
+    return sorted(os.path.relpath(os.path.join(path, name), folder) for path, _, names in os.walk(folder) for name in names)
+
+
+INSTALLED = [
+    "bin/tink", "share/bash-completion/completions/tink", "share/fish/vendor_completions.d/tink.fish", "share/man/man1/tink.1",
+    "share/zsh/site-functions/_tink",
+]
+
+
+def made(folder, *words):
+    """Runs make in a copy of what it installs, of a program that stands for the proved one."""
+    done = subprocess.run(["make", "-s", "-C", folder, *words, "PROGRAM=program"], capture_output=True, text=True)
+    check(done.returncode == 0, f"make {words}: {done.stderr}")
+
+
+def packages():
+    """`make install`, `make uninstall` and `make deb`."""
+    with tempfile.TemporaryDirectory() as folder:
+        for name in ("Makefile", "LICENSE"):
+            shutil.copy(os.path.join(ROOT, name), folder)
+        shutil.copytree(os.path.join(ROOT, "share"), os.path.join(folder, "share"))
+        for name in ("tink", "program"):
+            with open(os.path.join(folder, name), "w") as file:
+                file.write("#!/bin/sh\n")
+            os.chmod(os.path.join(folder, name), 0o755)
+        place = os.path.join(folder, "a place")
+        for prefix in ("/usr/local", "/opt/tink"):
+            made(folder, "install", f"DESTDIR={place}", f"PREFIX={prefix}")
+            check(files_below(place + prefix) == INSTALLED, f"make install: {files_below(place)}")
+            modes = {os.stat(os.path.join(place + prefix, name)).st_mode & 0o777 for name in INSTALLED[1:]}
+            check(modes == {0o644} and os.access(place + prefix + "/bin/tink", os.X_OK), "make install: modes")
+            made(folder, "uninstall", f"DESTDIR={place}", f"PREFIX={prefix}")
+            check(files_below(place) == [], f"make uninstall leaves {files_below(place)}")
+        if not shutil.which("dpkg-deb"):
+            return "no dpkg-deb here"
+        made(folder, "deb")
+        (package,) = [name for name in os.listdir(os.path.join(folder, "out")) if name.endswith(".deb")]
+        package = os.path.join(folder, "out", package)
+        listed = subprocess.run(["dpkg-deb", "--contents", package], capture_output=True, text=True).stdout.splitlines()
+        names = sorted(row.split()[-1].removeprefix("./usr/") for row in listed if not row.endswith("/"))
+        want = [name.replace("zsh/site-functions", "zsh/vendor-completions") for name in INSTALLED] + ["share/doc/tink-proved/copyright"]
+        check(names == sorted(want), f"make deb: {names}")
+        check(all(row.split()[1] == "root/root" for row in listed), "make deb: all files are root's")
+        check(subprocess.run(["dpkg-deb", "--field", package], capture_output=True).returncode == 0, "make deb: the fields")
+    return "a package"
+
+
 occurrences()
 bash()
 takes()
 man_page()
 help_pages()
+print("share:", ", ".join((fish(), zsh(), packages())))
 print(f"share: {CHECKS} checks passed")
