@@ -118,7 +118,10 @@ def leftovers():
         tink("decrypt", "-k", "keys.json", "-o", "out", "sealed")
         check(read("text") == TEXT and os.path.islink("out.tink-1.part"), "a link of a draft's name is not followed")
         os.symlink("text", "keys.json.tink.part")
-        tink(*rotate, status=12, says="keys.json: a draft")
+        os.symlink("keys.json", "a link")
+        done = run("rotate", "a link", "AES128_GCM_HKDF_4KB")
+        check(done.returncode == 12 and b"tink: a link: a draft blocks each change of it\n" in done.stderr, f"a draft that no run may take away: {done}")
+        check(b"keys.json.tink.part: no run may take this draft away: remove it, or ask its owner to\n" in done.stderr, f"its path is named: {done}")
         check(read("text") == TEXT, "a link of a draft's name is not followed")
 
 

@@ -6,6 +6,7 @@ ghost use Rattle.tink_unix.specs.OfStatus.{IsOfStatus};
 
 use crate::leftovers::{Cleared, MOST_RUNS, clear, names_this, sweep};
 use crate::names::{Which, draft_name, follow, parts_of, text_of};
+use crate::notes::note;
 use crate::output::Written;
 use crate::reasons::{NONE, NOT_UTF8, code_of};
 use crate::refusals::{unwritable, unwritten};
@@ -30,6 +31,8 @@ const ENOMEM: i32 = 12;
 const EACCES: i32 = 13;
 
 const EEXIST: i32 = 17;
+
+const ELOOP: i32 = 40;
 
 /// A draft, whose lock is held. Only its owner may read it until it is shown. No clause knows its bytes.
 #[derive(Drop)]
@@ -152,7 +155,10 @@ fn target_of<'w>(rt: &HostRuntime, name: &'w [u8]) -> Result<String, Trouble<'w>
             Ok(_) => {}
             Err(e) => match code_of(e) {
                 ENOENT => {}
-                _ => return Err(unwritten(name, "the system does not follow this link")),
+                EACCES | ELOOP => {
+                    return Err(unwritten(name, "the system does not follow this link"));
+                }
+                code => return Err(unwritable(name, code)),
             },
         }
     }
@@ -240,10 +246,14 @@ fn claim_lone<'w>(
             name,
             "another run is changing it (its draft NAME.tink.part is locked): wait for it, or end it",
         )),
-        Err(Unclaimed::Foreign) => Err(unwritten(
-            name,
-            "a draft NAME.tink.part is beside it that you may not take over: its owner can remove it",
-        )),
+        Err(Unclaimed::Foreign) => {
+            note(
+                rt,
+                path.as_str(),
+                &["no run may take this draft away: remove it, or ask its owner to"],
+            );
+            Err(unwritten(name, "a draft blocks each change of it"))
+        }
         Err(Unclaimed::Failed(code)) => Err(unwritable(name, code)),
     }
 }

@@ -91,10 +91,25 @@ fn remove(rt: &HostRuntime, path: &str, file: &File) -> Cleared {
     }
 }
 
-/// Whether a path is the name of this very file.
+/// Whether a path is the name of this very file. If the system does not answer, it is not.
 pub fn names_this(rt: &HostRuntime, path: &str, file: &File) -> bool {
-    match (fs::symlink_metadata(rt, path), file.metadata()) {
-        (Ok(named), Ok(open)) => named.ino() == open.ino() && named.dev() == open.dev(),
-        _ => false,
+    match is_name_of(rt, path, file) {
+        Ok(is) => is,
+        Err(_) => false,
+    }
+}
+
+/// The same, or the error's number.
+pub fn is_name_of(rt: &HostRuntime, path: &str, file: &File) -> Result<bool, i32> {
+    let named = match fs::symlink_metadata(rt, path) {
+        Ok(named) => named,
+        Err(e) => match code_of(e) {
+            ENOENT => return Ok(false),
+            code => return Err(code),
+        },
+    };
+    match file.metadata() {
+        Ok(open) => Ok(named.ino() == open.ino() && named.dev() == open.dev()),
+        Err(e) => Err(code_of(e)),
     }
 }

@@ -3,7 +3,7 @@
 ghost use Rattle.std.specs.Prelude.{◌≡◌, [], None, OnOk};
 
 use crate::draft::Draft;
-use crate::leftovers::names_this;
+use crate::leftovers::{is_name_of, names_this};
 use crate::names::folder_of;
 use crate::notes::note;
 use crate::reasons::{DRAFT_GONE, code_of, reason_of_errno};
@@ -116,7 +116,7 @@ impl Draft {
             Ok(()) => {}
             Err(e) => return Err(code_of(e)),
         }
-        if !names_this(&self.rt, path, &self.file) {
+        if !is_name_of(&self.rt, path, &self.file)? {
             return Err(DRAFT_GONE);
         }
         if self.is_replacing {

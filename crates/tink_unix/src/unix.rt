@@ -214,11 +214,11 @@ fn drawn(rt: HostRuntime, alloc: Global, n: usize) -> Result<Draws, Trouble<'sta
 {
     let mut bytes = Vec::new(alloc);
     if bytes.resize(n, 0).is_err() {
-        return Err(Trouble::Refused(b"tink", Kind::OutOfMemory));
+        return Err(Trouble::Refused(b"random bytes", Kind::OutOfMemory));
     }
     match rt.fill_bytes(bytes.as_mut_slice()) {
         Ok(()) => Ok(Draws::new(bytes)),
-        Err(_) => Err(Trouble::Refused(b"tink", Kind::RandomFault)),
+        Err(_) => Err(Trouble::Refused(b"random bytes", Kind::RandomFault)),
     }
 }
 
