@@ -9,6 +9,7 @@ ghost use Rattle.tink_cli_words.specs.Forms.{given};
 ghost use Rattle.tink_cli_words.specs.Words.{byte_words};
 
 use crate::claims::is_of_streams;
+use crate::explaining::explained;
 use crate::over_streams::run_on_streams;
 use crate::telling::tell_wrong;
 use crate::{keys, showing, wrapping};
@@ -48,7 +49,10 @@ pub fn run<Y: System, K: Sink, E: Sink>(
     match parse(words) {
         Ok(given) => match command(alloc, system, &given, sink) {
             Ok(()) => 0,
-            Err(trouble) => refusal(tell(faults, trouble)),
+            Err(trouble) => {
+                let trouble = explained(alloc, system, trouble);
+                refusal(tell(faults, trouble))
+            }
         },
         Err(wrong) => tell_wrong(system, faults, wrong),
     }

@@ -3,6 +3,7 @@
 
 mod claims;
 mod commands;
+mod explaining;
 mod keys;
 mod laws;
 mod over_streams;

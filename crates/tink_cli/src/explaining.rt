@@ -1,0 +1,134 @@
+//! The fault of a file of keys that a command refused.
+
+ghost use Rattle.std.specs.Prelude.{◌≡◌, ◌≤◌};
+ghost use Rattle.tink_system.specs.Statuses.{trouble_status};
+
+use std::alloc::Global;
+use tink_cli_streams::keys::LIMIT;
+use tink_cli_streams::named;
+use tink_io::Kind;
+use tink_json::Json;
+use tink_keyset_io::key_files::{Format, wire_bytes};
+use tink_proto::{EncryptedKeyset, Key, KeyStatusType, Keyset, Message};
+use tink_system::{System, Trouble};
+
+// The first bytes of a text that an editor marked as UTF-8.
+const MARK: &[u8] = b"\xef\xbb\xbf";
+
+/// The same error, with the fault of its file, if a second reading finds one. The faults are a rule that the keyset breaks, a
+/// wrapped file, and a byte-order mark. The status stays.
+pub fn explained<'w, Y: System>(alloc: Global, system: &mut Y, trouble: Trouble<'w>) -> Trouble<'w>
+    ensures status { trouble_status result ≡ trouble_status trouble.entry }
+    ensures state { Y.state system.new ≡ Y.state system.old }
+    ensures later { Y.faults system.old ≤ Y.faults system.new }
+{
+    match trouble {
+        Trouble::Refused(name, Kind::InvalidKeyset) => match fault_of(alloc, system, name) {
+            Some(fault) => Trouble::Unusable(name, fault, 14),
+            None => trouble,
+        },
+        Trouble::Refused(name, Kind::BadKeyset) => match fault_of(alloc, system, name) {
+            Some(fault) => Trouble::Unusable(name, fault, 13),
+            None => trouble,
+        },
+        _ => trouble,
+    }
+}
+
+// The fault of a file of keys. A pipe cannot be read once more.
+fn fault_of<Y: System>(alloc: Global, system: &mut Y, name: &[u8]) -> Option<&'static str>
+    ensures state { Y.state system.new ≡ Y.state system.old }
+    ensures later { Y.faults system.old ≤ Y.faults system.new }
+{
+    let Some(name) = named(Some(name)) else {
+        return None;
+    };
+    if system.is_stream(name) {
+        return None;
+    }
+    match system.read_whole(alloc, Some(name), LIMIT) {
+        Ok(file) => fault_in(alloc, file),
+        Err(_) => None,
+    }
+}
+
+// The fault of the bytes of a file of keys.
+fn fault_in(alloc: Global, file: Vec<u8>) -> Option<&'static str> {
+    if file.as_slice().starts_with(MARK) {
+        return Some("bad keyset: a byte-order mark is in front of it: save it without one");
+    }
+    if is_wrapped(alloc, &file) {
+        return Some(
+            "it is a wrapped file of keys: `tink unwrap` opens it, and `--master MASTER` reads it in its place",
+        );
+    }
+    match wire_bytes(alloc, file) {
+        Ok(keyset) => match Keyset::decode(alloc, keyset.as_slice()) {
+            Ok(keyset) => broken_rule(keyset.primary_key_id, keyset.key.as_slice()),
+            Err(_) => None,
+        },
+        Err(_) => None,
+    }
+}
+
+// Whether a file holds an encrypted keyset.
+fn is_wrapped(alloc: Global, file: &[u8]) -> bool {
+    let read = match Format::of_file(file) {
+        Format::Binary => EncryptedKeyset::decode(alloc, file),
+        Format::Json => EncryptedKeyset::from_json(alloc, file),
+    };
+    match read {
+        Ok(wrapped) => !wrapped.encrypted_keyset.as_slice().is_empty()
+            && wrapped.keyset_info.is_some(),
+        Err(_) => false,
+    }
+}
+
+// The first rule of a valid keyset that is broken.
+fn broken_rule(primary: u32, keys: &[Key]) -> Option<&'static str> {
+    if keys.is_empty() {
+        return Some("invalid keyset: it has no key");
+    }
+    'keys: for key in keys {
+        let broken = broken_rule_of_key(key);
+        if broken.is_some() {
+            return broken;
+        }
+    }
+    match (
+        keys.iter().any(|key| is_enabled(key)),
+        keys.iter()
+            .filter(|key| is_enabled(key) && key.key_id == primary)
+            .count(),
+    ) {
+        (false, _) => Some("invalid keyset: none of its keys is enabled: `tink keys` shows them"),
+        (true, 0) => Some(
+            "invalid keyset: none of its enabled keys is the primary key: `tink keys` shows them",
+        ),
+        (true, 1) => None,
+        (true, _) => Some(
+            "invalid keyset: two of its enabled keys have the id of the primary key: `tink keys` shows them",
+        ),
+    }
+}
+
+fn is_enabled(key: &Key) -> bool {
+    key.status == KeyStatusType::Enabled as i32
+}
+
+// The first rule of a key that is broken.
+fn broken_rule_of_key(key: &Key) -> Option<&'static str> {
+    if key.key_data.is_none() && key.status != KeyStatusType::Destroyed as i32 {
+        return Some("invalid keyset: a key has no data, and is not destroyed");
+    }
+    if key.key_id == 0 {
+        return Some("invalid keyset: a key has the id 0, which none may have");
+    }
+    if key.output_prefix_type < 1 || key.output_prefix_type > 4 {
+        return Some("invalid keyset: a key has no output prefix type that is known");
+    }
+    if key.status < 1 || key.status > 3 {
+        return Some("invalid keyset: a key is neither enabled nor disabled nor destroyed");
+    }
+    None
+}
