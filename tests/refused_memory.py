@@ -9,8 +9,6 @@ GCM = b"type.googleapis.com/google.crypto.tink.AesGcmHkdfStreamingKey"
 SEED = "0" * 64
 TEMPLATE = "AES128_CTR_HMAC_SHA256_4KB"
 NO_MEMORY, READ_FAULT, WRITE_FAULT = (10, b"out of memory\n"), (11, b"read fault\n"), (12, b"write fault\n")
-# Before the words are read it is not known that they are a command over standard streams.
-NO_WORDS = (10, b"tink: tink: out of memory: there is no memory: close other programs, or take keys of smaller segments\n")
 
 
 def varint(n):
@@ -71,7 +69,7 @@ class Row:
         for number in range(1, memory + 1):
             ran = run(self.words, self.text, REFUSE_MEMORY=number)
             # Out of memory comes before anything is written, and before anything is read where the text is not held whole.
-            refused = (ran[0], ran[2]) in (NO_MEMORY, NO_WORDS) and ran[1] == b"" and ran[3][2] == 0 and (self.reads_first or ran[3][1] == 0)
+            refused = (ran[0], ran[2]) == NO_MEMORY and ran[1] == b"" and ran[3][2] == 0 and (self.reads_first or ran[3][1] == 0)
             self.refused += refused
             self.judge("memory", number, ran, refused or self.told(ran))
         for kind, count, setting, fault in (("reads", reads, "FAIL_READ", READ_FAULT), ("writes", writes, "FAIL_WRITE", WRITE_FAULT)):

@@ -3,8 +3,8 @@
 
 use std::process::ExitCode;
 use tink_cli::run;
-use tink_io::StdSink;
-use tink_system::trouble::{Trouble, tell};
+use tink_io::{StdSink, write_line};
+use tink_system::trouble::status;
 use tink_unix::{Unix, occupy_standard_streams, words_of_process};
 
 fn main(rt: HostRuntime) -> ExitCode {
@@ -22,6 +22,9 @@ fn main(rt: HostRuntime) -> ExitCode {
                 &mut faults,
             ))
         }
-        Err(e) => ExitCode::from(tell(&mut faults, Trouble::Refused(b"tink", e.kind))),
+        Err(e) => {
+            write_line(&mut faults, e.kind);
+            ExitCode::from(status(e.kind))
+        }
     }
 }
