@@ -223,7 +223,7 @@ def on_terminal(words, data):
 def terminals():
     tink("encrypt", "-k", "keys.json", "-o", "sealed", "text")
     check(b"the first line\r\nand the second" in on_terminal(["decrypt", "-k", "keys.json"], "sealed"), "a plaintext on a terminal")
-    ranged = on_terminal(["range", "-k", "keys.json", "--start", "4", "--length", "5", "sealed"], "/dev/null")
+    ranged = on_terminal(["range", "-q", "-k", "keys.json", "--start", "4", "--length", "5", "sealed"], "/dev/null")
     check(ranged == b"first", f"a range on a terminal: {ranged}")
     for words, data in ((("encrypt", "-k", "keys.json"), "text"), (("rewrap", "-k", "keys.json", "-t", "later.json"), "sealed")):
         shown = on_terminal(list(words), data)

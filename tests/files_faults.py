@@ -61,7 +61,7 @@ def faulty(words, inject):
     """A run in which calls of the system fail."""
     return subprocess.run(
         ["strace", "-qq", "-f", "-o", "/dev/null", "-e", f"trace={inject.split(':')[0]}", "-e", f"inject={inject}", PROGRAM, *words],
-        capture_output=True, stdin=subprocess.DEVNULL, timeout=60,
+        capture_output=True, stdin=subprocess.DEVNULL, timeout=300,
     )
 
 
@@ -90,7 +90,7 @@ def no_links():
 def calls_of(words):
     """How often a run makes each call, and how many of them are the loader's."""
     with tempfile.NamedTemporaryFile(dir=FOLDER, mode="r") as log:
-        subprocess.run(["strace", "-qq", "-f", "-o", log.name, PROGRAM, *words], capture_output=True, stdin=subprocess.DEVNULL, timeout=60)
+        subprocess.run(["strace", "-qq", "-f", "-o", log.name, PROGRAM, *words], capture_output=True, stdin=subprocess.DEVNULL, timeout=300)
         names = re.findall(r"^(?:\d+ +)?(\w+)\(", log.read(), re.M)
     end = names.index("munmap") + 1 if "munmap" in names else 1
     front = {name: names[:end].count(name) for name in ERRORS}
@@ -124,7 +124,8 @@ def one_fault(words, output, is_whole, before, call, number, error, counts):
     done = faulty(words, f"{call}:error={error}:when={number}")
     what = f"{words[0]}{' --no-clobber' if '--no-clobber' in words else ''}: {call} {number} fails by {error}"
     after = {name: data for name, data in all_of().items() if name not in drafts()}
-    text = done.stderr.decode(errors="replace")
+    # A program that `rt try` made has lines of its own checks.
+    text = re.sub(r"(?m)^==\d+==.*\n", "", done.stderr.decode(errors="replace"))
     counts[done.returncode] = counts.get(done.returncode, 0) + 1
     check(done.returncode in (0, 10, 11, 12, 35), f"{what}: {done}")
     others = {name: data for name, data in after.items() if name != output}

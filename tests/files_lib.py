@@ -25,12 +25,12 @@ def count():
 
 
 def run(*words, stdin=b"", **more):
-    """Runs the program. It ends within a minute."""
+    """Runs the program. It ends within five minutes, even on a busy machine."""
     if "stdin_file" in more:
         more["stdin"] = more.pop("stdin_file")
     else:
         more["input"] = stdin
-    return subprocess.run([PROGRAM, *words], stdout=more.pop("stdout", subprocess.PIPE), stderr=subprocess.PIPE, timeout=60, **more)
+    return subprocess.run([PROGRAM, *words], stdout=more.pop("stdout", subprocess.PIPE), stderr=subprocess.PIPE, timeout=300, **more)
 
 
 def tink(*words, status=0, says="", stdin=b"", **more):

@@ -1,8 +1,9 @@
 """Keys for later, formats, prefixes, listings in JSON, keys under a master, check and info, keys by standard streams."""
 import json
 import os
+import subprocess
 
-from files_lib import TEXT, a_folder, all_of, check, drafts, ids, mode, read, run, tink, write
+from files_lib import PROGRAM, TEXT, a_folder, all_of, check, drafts, ids, mode, read, run, tink, write
 
 PREFIXES = {"tink": "TINK", "raw": "RAW", "legacy": "LEGACY", "crunchy": "CRUNCHY"}
 SEGMENT = 4096
@@ -98,6 +99,24 @@ def standard_keys():
         check(tink("convert", "-", "-o", "-", "--format", "json", stdin=keys) == keys, "convert by pipes")
         tink("encrypt", "-k", "-", "text", stdin=b"nothing of the kind", status=13)
         tink("encrypt", "-k", "-", "text", stdin=b"", status=14)
+        # The keys and the text cannot both come from standard input.
+        macs = tink("new", "HMAC_SHA256_128BITTAG", "-o", "-")
+        for words, data in (
+            (("encrypt", "-k", "-", "-o", "both"), keys),
+            (("decrypt", "-k", "-", "-o", "both", "-"), keys),
+            (("check", "-k", "-"), keys),
+            (("rewrap", "-k", "-", "-t", "new.json", "-o", "both"), keys),
+            (("rewrap", "-k", "keys.json", "-t", "-", "-o", "both"), keys),
+            (("rewrap", "-k", "-", "-t", "-", "-o", "both", "sealed"), keys),
+            (("encrypt", "-k", "wrapped.json", "--master", "-", "-o", "both"), read("master.json")),
+            (("encrypt", "-k", "-", "--master", "-", "-o", "both", "text"), keys),
+            (("sign", "-k", "-", "-o", "both"), macs),
+        ):
+            done = run(*words, stdin=data)
+            check(done.returncode in (2, 11) and b"standard input" in done.stderr and not os.path.exists("both"), f"{words}: {done}")
+        for action in ("wrap", "unwrap"):
+            done = run(action, "-k", "-", "-o", "both", "-", stdin=read("master.json"))
+            check(done.returncode != 0 and done.stderr.startswith(b"tink: ") and not os.path.exists("both"), f"{action}: {done}")
 
 
 def mastered():
@@ -188,3 +207,72 @@ def agree(name, what):
     check(looked.returncode in (21, 22, 23) and looked.returncode == opened.returncode, f"{what}: {looked} {opened}")
     check(looked.stdout == b"" and looked.stderr == opened.stderr, f"{what}: {looked} {opened}")
     check(not os.path.exists("opened") and drafts() == [], f"{what}: nothing is made")
+
+
+# What is done to a keyset of two keys, the second of which is primary, and what a command then says of it.
+BROKEN = [
+    (lambda k: k.update(primaryKeyId=5), "none of its enabled keys is the primary key"),
+    (lambda k: k.pop("primaryKeyId"), "none of its enabled keys is the primary key"),
+    (lambda k: k["key"][1].update(status="DISABLED"), "none of its enabled keys is the primary key"),
+    (lambda k: [key.update(status="DISABLED") for key in k["key"]], "none of its keys is enabled"),
+    (lambda k: k["key"][0].update(keyId=k["key"][1]["keyId"]), "two of its enabled keys have the id of the primary key"),
+    (lambda k: k.update(key=[]), "it has no key"),
+    (lambda k: k["key"][0].pop("keyData"), "a key has no data, and is not destroyed"),
+    (lambda k: k["key"][0].update(keyId=0), "a key has the id 0, which none may have"),
+    (lambda k: k["key"][0].update(outputPrefixType="UNKNOWN_PREFIX"), "a key has no output prefix type that is known"),
+    (lambda k: k["key"][0].update(status="UNKNOWN_STATUS"), "a key is neither enabled nor disabled nor destroyed"),
+]
+
+
+def invalid_keysets():
+    """The rule that a keyset breaks is named, and so are a wrapped file and a byte-order mark. The file stays as it is."""
+    with a_folder("invalid"):
+        tink("rotate", "keys.json", "AES128_GCM_HKDF_4KB")
+        other = ids("keys.json")[0][0]
+        for change, rule in BROKEN:
+            keyset = json.loads(read("keys.json"))
+            change(keyset)
+            write("broken", json.dumps(keyset).encode())
+            for words in (("encrypt", "-k", "broken", "text"), ("rotate", "broken", "AES128_GCM_HKDF_4KB"), ("disable", "broken", other), ("wrap", "-k", "master.json", "-o", "made", "broken")):
+                held = read("broken")
+                tink(*words, status=14, says=f"tink: broken: invalid keyset: {rule}")
+                check(read("broken") == held and not os.path.exists("made") and drafts() == [], f"{words}: {rule}")
+        tink("wrap", "-k", "master.json", "-o", "wrapped.bin", "--format", "binary", "keys.json")
+        for name in ("wrapped.json", "wrapped.bin"):
+            for words in (("encrypt", "-k", name, "text"), ("keys", name), ("rotate", name, "AES128_GCM_HKDF_4KB"), ("convert", name, "-o", "made", "--format", "json")):
+                done = run(*words)
+                says = f"tink: {name}: it is a wrapped file of keys: `tink unwrap` opens it, and `--master MASTER` reads it in its place\n"
+                check(done.returncode in (13, 14) and done.stderr.decode() == says, f"{words}: {done}")
+        write("marked", b"\xef\xbb\xbf" + read("keys.json"))
+        for words in (("encrypt", "-k", "marked", "text"), ("keys", "marked"), ("rotate", "marked", "AES128_GCM_HKDF_4KB")):
+            tink(*words, status=13, says="tink: marked: bad keyset: a byte-order mark is in front of it: save it without one\n")
+        check(drafts() == [] and not os.path.exists("made"), "a refusal leaves nothing")
+
+
+def peak(words):
+    """The status of a run, and the most memory that it had, in bytes."""
+    program = "import os, resource, subprocess, sys; done = subprocess.run(sys.argv[1:], stdout=subprocess.DEVNULL, stderr=subprocess.DEVNULL); print(done.returncode, resource.getrusage(resource.RUSAGE_CHILDREN).ru_maxrss)"
+    said = subprocess.run(["python3", "-c", program, PROGRAM, *words], capture_output=True, timeout=900)
+    status, kibibytes = said.stdout.split()
+    return int(status), int(kibibytes) * 1024
+
+
+def memory():
+    """A file of keys is loaded in at most 16 times its size, or refused as too long."""
+    with a_folder("memory"):
+        write("small", b"")
+        least = max(peak(("keys", "keys.json"))[1], peak(("encrypt", "-k", "keys.json", "-o", "made", "small"))[1])
+        keyset = json.loads(read("keys.json"))
+        for count in (1_000_000, 30_000_000):
+            write("empty.bin", b"\x08\x01" + b"\x12\x00" * count)
+            write("empty.json", b'{"primaryKeyId": 1, "key": [' + b",".join([b"{}"] * count) + b"]}")
+            for name in ("empty.bin", "empty.json"):
+                for words in (("keys", name), ("encrypt", "-k", name, "text"), ("rotate", name, "AES128_GCM_HKDF_4KB"), ("convert", name, "-o", "made", "--format", "binary"), ("wrap", "-k", name, "-o", "made", "keys.json")):
+                    status, most = peak(words)
+                    check(status == 13 and most - least <= 16 * os.path.getsize(name), f"{words} with {count} empty keys: status {status}, {most} bytes")
+        for count in (1000, 20_000):
+            many = [{**keyset["key"][0], "keyId": number + 1} for number in range(count)]
+            write("many.json", json.dumps({"primaryKeyId": 1, "key": many}).encode())
+            for words in (("keys", "many.json"), ("encrypt", "-k", "many.json", "-o", "made", "small")):
+                status, most = peak(words)
+                check(status == 0 and most - least <= 16 * os.path.getsize("many.json"), f"{words} with {count} keys: status {status}, {most} bytes of {os.path.getsize('many.json')}")

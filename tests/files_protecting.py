@@ -10,7 +10,7 @@ IS_ROOT = os.geteuid() == 0
 def closed(words, ends, **more):
     """A run that begins with some of the descriptors 0, 1, 2 closed."""
     close = " ".join(f"{end}<&-" if end == 0 else f"{end}>&-" for end in ends)
-    return subprocess.run(["sh", "-c", f'exec "$0" "$@" {close}', PROGRAM, *words], capture_output=True, stdin=subprocess.DEVNULL, timeout=60, **more)
+    return subprocess.run(["sh", "-c", f'exec "$0" "$@" {close}', PROGRAM, *words], capture_output=True, stdin=subprocess.DEVNULL, timeout=300, **more)
 
 
 def each_closed(place):
@@ -268,11 +268,12 @@ def streams_as_output(encrypt):
     check(read("appended") == b"before\n" + TEXT, "what was there stays in front")
     for name in ("/dev/stdin", "/dev/fd/0", "/proc/self/fd/0"):
         check(tink("decrypt", "-k", "keys.json", name, stdin=read("sealed")) == TEXT, f"{name} as input")
-    with open("sealed", "rb") as source:
-        source.read(3)
-        source.seek(0)
-        done = run("decrypt", "-k", "keys.json", "/dev/stdin", stdin_file=source)
-        check(done.stdout == TEXT, "a file as standard input")
+    write("behind", b"front" + read("sealed"))
+    for name in ((), ("/dev/stdin",), ("/dev/fd/0",)):
+        with open("behind", "rb", buffering=0) as source:
+            source.read(5)
+            done = run("decrypt", "-k", "keys.json", *name, stdin_file=source)
+        check(done.returncode == 0 and done.stdout == TEXT, f"a file as standard input is read from its place on, by {name}: {done.stderr}")
     with open("regular", "wb") as out:
         done = run(*encrypt, f"/proc/self/fd/{out.fileno()}", "text", pass_fds=(out.fileno(),))
         check(done.returncode == 12 and read("regular") == b"", f"a descriptor of a regular file: {done}")
