@@ -14,7 +14,7 @@ def key_files():
     before = read("keys.json")
     tink("new", "AES256_GCM_HKDF_1MB", "-o", "keys.json", status=12, says="keys.json: it is there already")
     check(read("keys.json") == before, "a key file that exists stays")
-    tink("new", "NO_SUCH", "-o", "none.json", status=24, says="NO_SUCH: unknown template")
+    tink("new", "NO_SUCH", "-o", "none.json", status=24, says="NO_SUCH: unknown template: no template has this name: `tink templates` lists them\n")
     tink("new", "AES256_GCM_HKDF_1MB", "-o", "no/such/keys.json", status=12, says="its folder is not there")
     tink("new", "AES256_GCM_HKDF_1MB", "-o", "none.json", "--format", "yaml", status=2)
     check(not os.path.exists("none.json") and drafts() == [], "a refusal leaves nothing")

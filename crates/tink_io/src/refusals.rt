@@ -76,7 +76,7 @@ fn advice_on_keys(kind: Kind) -> &'static str {
             "it has a key for another use: only keys of streams encrypt files, only MACs sign, and only AEADs wrap keys",
         Kind::UnsupportedHash =>
             "its primary key derives by a hash that no stream takes: rotate it",
-        Kind::UnknownTemplate => "no template has this name: `tink help new` lists them",
+        Kind::UnknownTemplate => "no template has this name: `tink templates` lists them",
         Kind::NoFreshId => "no unused id was drawn: try again",
         Kind::KeyNotFound => "no key has this id: `tink keys` lists them",
         Kind::IsPrimary => "it is the primary key: promote another one first",
