@@ -121,6 +121,20 @@ static void token(data k, data t, data p) {
   REFUSES(TINK_BAD_TOKEN, tink_verify_token, D(k), D(p));
 }
 
+/* A copy of the output. */
+static data kept(void) {
+  data d = {malloc(written), written};
+  memcpy(d.bytes, out, written);
+  return d;
+}
+
+/* The id of the second key of a keyset. */
+static uint32_t second_id(data k) {
+  prepare();
+  CHECK(tink_keyset_list(D(k), out, ROOM, &written) == TINK_OK);
+  return (uint32_t)strtoul(strchr((char *)out, '\n') + 1, NULL, 10);
+}
+
 static void create(data t, data r, data k) {
   GIVES(k, tink_keyset_create, D(t), false, D(r));
   REFUSES(TINK_UNKNOWN_TEMPLATE, tink_keyset_create, t.bytes, t.len - 1, false, D(r));
@@ -129,8 +143,7 @@ static void create(data t, data r, data k) {
   /* to JSON and back, listed, rotated and edited */
   prepare();
   CHECK(tink_keyset_convert(D(k), true, out, ROOM, &written) == TINK_OK && out[0] == '{');
-  data json = {malloc(written), written};
-  memcpy(json.bytes, out, written);
+  data json = kept();
   GIVES(k, tink_keyset_convert, D(json), false);
   prepare();
   CHECK(tink_keyset_list(D(json), out, ROOM, &written) == TINK_OK && out[written - 1] == '\n');
@@ -139,15 +152,49 @@ static void create(data t, data r, data k) {
   REFUSES(TINK_KEY_NOT_FOUND, tink_keyset_delete, D(k), id ^ 1);
   prepare();
   CHECK(tink_keyset_rotate(D(k), D(t), false, r.bytes + 200, 300, out, ROOM, &written) == TINK_OK);
-  data two = {malloc(written), written};
-  memcpy(two.bytes, out, written);
+  data two = kept();
   prepare();
   CHECK(tink_keyset_disable(D(two), id, out, ROOM, &written) == TINK_OK);
-  data off = {malloc(written), written};
-  memcpy(off.bytes, out, written);
+  data off = kept();
   REFUSES(TINK_WRONG_KEY_STATUS, tink_keyset_promote, D(off), id);
   GIVES(two, tink_keyset_enable, D(off), id);
-  free(json.bytes), free(two.bytes), free(off.bytes);
+  /* promoted, destroyed and deleted; a key is added, and rotated under another primitive */
+  prepare();
+  CHECK(tink_keyset_promote(D(two), id, out, ROOM, &written) == TINK_OK);
+  data back = kept();
+  REFUSES(TINK_IS_PRIMARY, tink_keyset_destroy, D(back), id);
+  prepare();
+  CHECK(tink_keyset_destroy(D(off), id, out, ROOM, &written) == TINK_OK);
+  data gone = kept();
+  REFUSES(TINK_WRONG_KEY_STATUS, tink_keyset_enable, D(gone), id);
+  prepare();
+  CHECK(tink_keyset_delete(D(gone), id, out, ROOM, &written) == TINK_OK);
+  data one = kept();
+  REFUSES(TINK_KEY_NOT_FOUND, tink_keyset_enable, D(one), id);
+  prepare();
+  CHECK(tink_keyset_add(D(k), D(t), r.bytes + 200, 300, out, ROOM, &written) == TINK_OK);
+  data added = kept();
+  uint32_t second = second_id(added);
+  GIVES(two, tink_keyset_promote, D(added), second);
+  const char *other = memcmp(t.bytes, "HMAC", 4) == 0 ? "AES128_GCM" : "HMAC_SHA256_128BITTAG";
+  REFUSES(TINK_WRONG_PRIMITIVE, tink_keyset_rotate, D(k), (const uint8_t *)other, strlen(other), false, D(r));
+  prepare();
+  CHECK(tink_keyset_rotate(D(k), (const uint8_t *)other, strlen(other), true, D(r), out, ROOM, &written) == TINK_OK);
+  prepare();
+  CHECK(tink_keyset_list_json(D(two), out, ROOM, &written) == TINK_OK && out[0] == '[');
+  /* under a master and back */
+  prepare();
+  CHECK(tink_keyset_create((const uint8_t *)"AES128_GCM", 10, true, D(r), out, ROOM, &written) == TINK_OK);
+  data master = kept();
+  prepare();
+  CHECK(tink_keyset_wrap(D(master), D(k), D(t), true, D(r), out, ROOM, &written) == TINK_OK);
+  data wrapped = kept();
+  GIVES(wrapped, tink_keyset_wrap, D(master), D(k), D(t), true, D(r));
+  GIVES(k, tink_keyset_unwrap, D(master), D(wrapped), D(t), false);
+  REFUSES(TINK_MASTER_FAILED, tink_keyset_unwrap, D(master), D(wrapped), t.bytes, t.len - 1, false);
+  REFUSES(TINK_MASTER_FAILED, tink_keyset_wrap, D(master), D(k), D(t), true, r.bytes, 3);
+  free(json.bytes), free(two.bytes), free(off.bytes), free(back.bytes), free(gone.bytes), free(one.bytes);
+  free(added.bytes), free(master.bytes), free(wrapped.bytes);
 }
 
 static void vectors(const char *path) {
