@@ -1,18 +1,35 @@
-# `make install PREFIX=/usr/local` puts the proved program, a binary that needs the C library alone, into PREFIX/bin, and
-# its completions and man page into PREFIX/share. `make deb` makes a package of the same for Debian.
+# `make install PREFIX=/usr/local` puts the proved program, a binary that needs the C library alone, into PREFIX/bin,
+# its completions and man page into PREFIX/share, and the proved library for C with its header into PREFIX/lib and
+# PREFIX/include. `make deb` makes a package of the same for Debian.
 PREFIX ?= /usr/local
 BIN = $(DESTDIR)$(PREFIX)/bin
 SHARE = $(DESTDIR)$(PREFIX)/share
 ZSH = $(SHARE)/zsh/site-functions
 PROGRAM = crates/tink_tool/out/tink_tool
 DEB = tink-proved_1.0_amd64.deb
+INCLUDE = $(DESTDIR)$(PREFIX)/include
+LIBRARIES = $(DESTDIR)$(PREFIX)/lib
+# The folder of the toolchain, which has the allocator of the library over that of C.
+KIT = $(shell dirname "$$(dirname "$$(readlink -f "$$(command -v rattle || command -v rt)")")")
+LIBC = $(KIT)/c/liblibc_c.a
+VERSION = 0.3.0
+OUT = bindings/out
 
-.PHONY: all install uninstall deb check check-fleet
+.PHONY: all lib install uninstall deb check check-fleet check-bindings
 
 all:
 	./tink --version
 
-install: all
+# The library for C, proved: libtink.a and libtink.so. Of libtink.so only names that begin with tink_ are visible.
+lib:
+	cd crates/tink_c && rt lib
+	mkdir -p $(OUT)
+	rm -f $(OUT)/libtink.a
+	printf '%s\n' 'create $(OUT)/libtink.a' 'addlib crates/tink_c/out/libtink_c.a' 'addlib $(LIBC)' save end | ar -M
+	$(CC) -shared -o $(OUT)/libtink.so -Wl,-soname,libtink.so -Wl,--version-script=bindings/c/exports.map \
+		-Wl,--whole-archive crates/tink_c/out/libtink_c.a -Wl,--no-whole-archive $(LIBC)
+
+install: all lib
 	install -d "$(BIN)" "$(SHARE)/man/man1" "$(SHARE)/bash-completion/completions" \
 		"$(ZSH)" "$(SHARE)/fish/vendor_completions.d"
 	install -m 755 $(PROGRAM) "$(BIN)/tink"
@@ -20,8 +37,14 @@ install: all
 	install -m 644 share/completions/tink.bash "$(SHARE)/bash-completion/completions/tink"
 	install -m 644 share/completions/_tink "$(ZSH)/_tink"
 	install -m 644 share/completions/tink.fish "$(SHARE)/fish/vendor_completions.d/tink.fish"
+	install -d "$(INCLUDE)" "$(LIBRARIES)/pkgconfig"
+	install -m 644 bindings/c/tink.h "$(INCLUDE)/tink.h"
+	install -m 644 $(OUT)/libtink.a "$(LIBRARIES)/libtink.a"
+	install -m 755 $(OUT)/libtink.so "$(LIBRARIES)/libtink.so"
+	sed -e 's|@PREFIX@|$(PREFIX)|' -e 's|@VERSION@|$(VERSION)|' bindings/c/tink.pc.in > "$(LIBRARIES)/pkgconfig/tink.pc"
 
 uninstall:
+	rm -f "$(INCLUDE)/tink.h" "$(LIBRARIES)/libtink.a" "$(LIBRARIES)/libtink.so" "$(LIBRARIES)/pkgconfig/tink.pc"
 	rm -f "$(BIN)/tink" "$(SHARE)/man/man1/tink.1" "$(SHARE)/bash-completion/completions/tink" \
 		"$(ZSH)/_tink" "$(SHARE)/fish/vendor_completions.d/tink.fish"
 
@@ -44,3 +67,7 @@ check:
 
 check-fleet:
 	tests/fleet
+
+# The tests of the library for C, and of its wrappers in Python, Rust and Go, if these are installed.
+check-bindings: lib
+	tests/bindings/run $(OUT)

@@ -1,0 +1,174 @@
+/* Keysets, AEADs, MACs, PRFs and tokens of Tink, by a proved library. Link with libtink.
+ *
+ * Every call answers a status. Status 0 (TINK_OK) says that the call did exactly what its line here says.
+ *
+ * Inputs are a pointer and a length in bytes. A keyset is a file of keys in memory, in JSON or in Tink's binary format.
+ *
+ * Outputs: a call writes its output to the beginning of `out`, which has room for `out_room` bytes, and the length of the
+ * output to `*written`. If the room is too small, the status is TINK_TOO_LITTLE_ROOM, `*written` is the room that is
+ * needed, and the same call may be made again with the same random bytes. After every status other than TINK_OK the bytes
+ * at `out` are as before, and after every status other than TINK_OK and TINK_TOO_LITTLE_ROOM `*written` is 0.
+ *
+ * Random bytes are an input. Hand in fresh bytes of the system's random source, TINK_RANDOM_.. of them, and use them for
+ * one call that answers TINK_OK alone: a nonce that is used twice breaks the encryption.
+ *
+ * What the caller upholds, since no proof covers C:
+ *   - No pointer is null, not even one whose length is 0.
+ *   - The lengths are those of memory that is there.
+ *   - No memory that is written (`out`, `*written`) overlaps other memory of the same call.
+ *   - A `bool` is 0 or 1.
+ *   - malloc aligns to 16 bytes; no call is made from a signal handler.
+ *
+ * The library keeps nothing between calls, so that threads may call it at once.
+ */
+#ifndef TINK_H
+#define TINK_H
+
+#include <stdbool.h>
+#include <stddef.h>
+#include <stdint.h>
+
+#ifdef __cplusplus
+extern "C" {
+#endif
+
+typedef uint8_t tink_status;
+
+enum {
+  TINK_OK = 0,
+  TINK_OUT_OF_MEMORY = 10,
+  TINK_BAD_KEYSET = 13,
+  TINK_INVALID_KEYSET = 14,
+  TINK_UNSUPPORTED_KEY_TYPE = 15,
+  TINK_INVALID_KEY = 16,
+  TINK_NO_PRIMARY = 17,
+  TINK_WRONG_PRIMITIVE = 18,
+  TINK_UNKNOWN_TEMPLATE = 24,
+  TINK_NO_FRESH_ID = 25,
+  TINK_BAD_TOKEN = 27,
+  TINK_MAC_MISMATCH = 28,
+  TINK_BAD_JSON = 30,
+  TINK_KEY_NOT_FOUND = 31,
+  TINK_IS_PRIMARY = 32,
+  TINK_WRONG_KEY_STATUS = 33,
+  TINK_MASTER_FAILED = 34,
+  TINK_RANDOM_FAULT = 35, /* fewer random bytes were handed in than the call takes */
+  TINK_TOO_LITTLE_ROOM = 42,
+  TINK_DECRYPT_FAILED = 44,
+  TINK_TEXT_TOO_LONG = 46,
+  TINK_DATA_TOO_LONG = 47,
+  TINK_NOT_RAW = 48,
+  TINK_BAD_OUTPUT_LENGTH = 49
+};
+
+/* How many random bytes are enough. */
+enum {
+  TINK_RANDOM_KEY = 576,    /* create, rotate, add */
+  TINK_RANDOM_ENCRYPT = 16  /* encrypt, wrap */
+};
+
+/* ---- keysets */
+
+/* A new keyset with one key by the template of a name, as "AES256_GCM". */
+tink_status tink_keyset_create(const uint8_t *template_name, size_t template_len, bool json,
+                               const uint8_t *random, size_t random_len,
+                               uint8_t *out, size_t out_room, size_t *written);
+
+/* The keyset with a new primary key by a template, in the format that it has. The other keys stay. If `to_any` is false, a
+ * keyset with an enabled key of another primitive is refused. */
+tink_status tink_keyset_rotate(const uint8_t *keyset, size_t keyset_len,
+                               const uint8_t *template_name, size_t template_len, bool to_any,
+                               const uint8_t *random, size_t random_len,
+                               uint8_t *out, size_t out_room, size_t *written);
+
+/* The keyset with a new key by a template, in the format that it has. The primary key stays. */
+tink_status tink_keyset_add(const uint8_t *keyset, size_t keyset_len,
+                            const uint8_t *template_name, size_t template_len,
+                            const uint8_t *random, size_t random_len,
+                            uint8_t *out, size_t out_room, size_t *written);
+
+/* The keyset with the first key of an id changed, in the format that it has. */
+tink_status tink_keyset_promote(const uint8_t *keyset, size_t keyset_len, uint32_t id,
+                                uint8_t *out, size_t out_room, size_t *written);
+tink_status tink_keyset_enable(const uint8_t *keyset, size_t keyset_len, uint32_t id,
+                               uint8_t *out, size_t out_room, size_t *written);
+tink_status tink_keyset_disable(const uint8_t *keyset, size_t keyset_len, uint32_t id,
+                                uint8_t *out, size_t out_room, size_t *written);
+tink_status tink_keyset_destroy(const uint8_t *keyset, size_t keyset_len, uint32_t id,
+                                uint8_t *out, size_t out_room, size_t *written);
+tink_status tink_keyset_delete(const uint8_t *keyset, size_t keyset_len, uint32_t id,
+                               uint8_t *out, size_t out_room, size_t *written);
+
+/* The same keyset in JSON or in the binary format. */
+tink_status tink_keyset_convert(const uint8_t *keyset, size_t keyset_len, bool json,
+                                uint8_t *out, size_t out_room, size_t *written);
+
+/* One line a key: id, status, prefix type and type, and which is the primary one. No key material. */
+tink_status tink_keyset_list(const uint8_t *keyset, size_t keyset_len,
+                             uint8_t *out, size_t out_room, size_t *written);
+
+/* The same as an array in JSON. */
+tink_status tink_keyset_list_json(const uint8_t *keyset, size_t keyset_len,
+                                  uint8_t *out, size_t out_room, size_t *written);
+
+/* The keyset encrypted by the primary key of a master keyset of AEADs, and back. */
+tink_status tink_keyset_wrap(const uint8_t *master, size_t master_len,
+                             const uint8_t *keyset, size_t keyset_len,
+                             const uint8_t *associated_data, size_t associated_data_len, bool json,
+                             const uint8_t *random, size_t random_len,
+                             uint8_t *out, size_t out_room, size_t *written);
+tink_status tink_keyset_unwrap(const uint8_t *master, size_t master_len,
+                               const uint8_t *wrapped, size_t wrapped_len,
+                               const uint8_t *associated_data, size_t associated_data_len, bool json,
+                               uint8_t *out, size_t out_room, size_t *written);
+
+/* ---- AEADs */
+
+tink_status tink_encrypt(const uint8_t *keyset, size_t keyset_len,
+                         const uint8_t *plaintext, size_t plaintext_len,
+                         const uint8_t *associated_data, size_t associated_data_len,
+                         const uint8_t *random, size_t random_len,
+                         uint8_t *out, size_t out_room, size_t *written);
+tink_status tink_decrypt(const uint8_t *keyset, size_t keyset_len,
+                         const uint8_t *ciphertext, size_t ciphertext_len,
+                         const uint8_t *associated_data, size_t associated_data_len,
+                         uint8_t *out, size_t out_room, size_t *written);
+
+/* ---- deterministic AEADs: equal bytes for equal plaintexts and data */
+
+tink_status tink_encrypt_deterministically(const uint8_t *keyset, size_t keyset_len,
+                                           const uint8_t *plaintext, size_t plaintext_len,
+                                           const uint8_t *associated_data, size_t associated_data_len,
+                                           uint8_t *out, size_t out_room, size_t *written);
+tink_status tink_decrypt_deterministically(const uint8_t *keyset, size_t keyset_len,
+                                           const uint8_t *ciphertext, size_t ciphertext_len,
+                                           const uint8_t *associated_data, size_t associated_data_len,
+                                           uint8_t *out, size_t out_room, size_t *written);
+
+/* ---- MACs and pseudorandom functions */
+
+tink_status tink_compute_mac(const uint8_t *keyset, size_t keyset_len,
+                             const uint8_t *message, size_t message_len,
+                             uint8_t *out, size_t out_room, size_t *written);
+tink_status tink_verify_mac(const uint8_t *keyset, size_t keyset_len,
+                            const uint8_t *mac, size_t mac_len,
+                            const uint8_t *message, size_t message_len);
+
+/* The first output_length bytes of the primary function. */
+tink_status tink_compute_prf(const uint8_t *keyset, size_t keyset_len,
+                             const uint8_t *input, size_t input_len, size_t output_length,
+                             uint8_t *out, size_t out_room, size_t *written);
+
+/* ---- tokens */
+
+tink_status tink_sign_token(const uint8_t *keyset, size_t keyset_len,
+                            const uint8_t *payload, size_t payload_len,
+                            uint8_t *out, size_t out_room, size_t *written);
+tink_status tink_verify_token(const uint8_t *keyset, size_t keyset_len,
+                              const uint8_t *token, size_t token_len,
+                              uint8_t *out, size_t out_room, size_t *written);
+
+#ifdef __cplusplus
+}
+#endif
+#endif

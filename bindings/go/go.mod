@@ -1,0 +1,3 @@
+module tinkproved
+
+go 1.19

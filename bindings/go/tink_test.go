@@ -1,0 +1,142 @@
+package tinkproved
+
+import (
+	"bufio"
+	"bytes"
+	"encoding/hex"
+	"os"
+	"strings"
+	"sync"
+	"testing"
+)
+
+func must[T any](t *testing.T) func(T, error) T {
+	return func(value T, err error) T {
+		t.Helper()
+		if err != nil {
+			t.Fatal(err)
+		}
+		return value
+	}
+}
+
+func equal(t *testing.T, got, want []byte) {
+	t.Helper()
+	if !bytes.Equal(got, want) {
+		t.Fatalf("got %x, want %x", got, want)
+	}
+}
+
+func refused(t *testing.T, err error, status Status) {
+	t.Helper()
+	if err != status {
+		t.Fatalf("got %v, want %v", err, status)
+	}
+}
+
+func TestVectors(t *testing.T) {
+	path := os.Getenv("TINK_VECTORS")
+	if path == "" {
+		path = "../../tests/bindings/vectors.txt"
+	}
+	file, err := os.Open(path)
+	if err != nil {
+		t.Fatal(err)
+	}
+	defer file.Close()
+	lines := bufio.NewScanner(file)
+	lines.Buffer(nil, 1<<20)
+	checked := 0
+	for lines.Scan() {
+		if strings.HasPrefix(lines.Text(), "#") {
+			continue
+		}
+		words := strings.Fields(lines.Text())
+		var d [][]byte
+		for _, word := range words[1:] {
+			part, _ := hex.DecodeString(strings.TrimPrefix(word, "-"))
+			d = append(d, part)
+		}
+		bytesOf := must[[]byte](t)
+		switch words[0] {
+		case "aead":
+			aead := NewAEAD(d[0])
+			equal(t, bytesOf(aead.Decrypt(d[4], d[2])), d[1])
+			_, err := aead.Decrypt(d[4][1:], d[2])
+			refused(t, err, DecryptFailed)
+			equal(t, bytesOf(aead.encrypt(d[1], d[2], d[3])), d[4])
+		case "daead":
+			daead := NewDeterministicAEAD(d[0])
+			equal(t, bytesOf(daead.EncryptDeterministically(d[1], d[2])), d[3])
+			equal(t, bytesOf(daead.DecryptDeterministically(d[3], d[2])), d[1])
+		case "mac":
+			mac := NewMAC(d[0])
+			equal(t, bytesOf(mac.ComputeMAC(d[1])), d[2])
+			if err := mac.VerifyMAC(d[2], d[1]); err != nil {
+				t.Fatal(err)
+			}
+			refused(t, mac.VerifyMAC(d[2], []byte("another")), MACMismatch)
+		case "prf":
+			equal(t, bytesOf(NewPRF(d[0]).Compute(d[1], len(d[2]))), d[2])
+		case "token":
+			equal(t, bytesOf(SignToken(d[0], d[2])), d[1])
+			equal(t, bytesOf(VerifyToken(d[0], d[1])), d[2])
+		default:
+			continue
+		}
+		checked++
+	}
+	if checked < 5 {
+		t.Fatalf("%d vectors", checked)
+	}
+}
+
+func TestRotation(t *testing.T) {
+	keyset := must[Keyset](t)
+	k := keyset(CreateKeyset("AES128_GCM"))
+	aead := NewAEAD(k)
+	sealed := must[[]byte](t)(aead.Encrypt([]byte("a value"), []byte("its column")))
+	old := must[[]Key](t)(k.Keys())[0].ID
+	k = keyset(k.Rotate("AES128_GCM"))
+	aead = NewAEAD(k)
+	equal(t, must[[]byte](t)(aead.Decrypt(sealed, []byte("its column"))), []byte("a value"))
+	_, err := keyset(k.Promote(old)).Disable(old)
+	refused(t, err, IsPrimary)
+	k = keyset(keyset(keyset(k.Disable(old)).Destroy(old)).Delete(old))
+	if len(must[[]Key](t)(k.Keys())) != 1 {
+		t.Fatal("a key is left")
+	}
+	_, err = CreateKeyset("none")
+	refused(t, err, UnknownTemplate)
+}
+
+func TestWrapping(t *testing.T) {
+	master, keyset := must[Keyset](t)(CreateKeyset("AES256_GCM")), must[Keyset](t)(CreateKeyset("AES256_SIV"))
+	wrapped := must[[]byte](t)(keyset.Wrap(master, []byte("machine-1")))
+	equal(t, must[Keyset](t)(Unwrap(wrapped, master, []byte("machine-1"))), keyset)
+	_, err := Unwrap(wrapped, master, []byte("machine-2"))
+	refused(t, err, MasterFailed)
+}
+
+func TestGoroutines(t *testing.T) {
+	keys := must[Keyset](t)(CreateKeyset("AES256_GCM"))
+	aead := NewAEAD(keys)
+	var group sync.WaitGroup
+	for i := 0; i < 4; i++ {
+		group.Add(1)
+		go func() {
+			defer group.Done()
+			for j := 0; j < 20; j++ {
+				sealed, err := aead.Encrypt([]byte("a value"), nil)
+				if err != nil {
+					t.Error(err)
+					return
+				}
+				if text, err := aead.Decrypt(sealed, nil); err != nil || string(text) != "a value" {
+					t.Error(err)
+				}
+			}
+		}()
+	}
+	group.Wait()
+}

@@ -1,0 +1,9 @@
+// Says where libtink is: in the folder that TINK_LIB_DIR names, or where the linker looks anyway.
+fn main() {
+    println!("cargo:rerun-if-env-changed=TINK_LIB_DIR");
+    if let Ok(folder) = std::env::var("TINK_LIB_DIR") {
+        println!("cargo:rustc-link-search=native={folder}");
+        println!("cargo:rustc-link-arg=-Wl,-rpath,{folder}");
+    }
+    println!("cargo:rustc-link-lib=dylib=tink");
+}

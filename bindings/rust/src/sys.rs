@@ -1,0 +1,80 @@
+//! The C functions, and how a call gets its buffer.
+
+use crate::error::Error;
+use std::fs::File;
+use std::io::Read;
+
+macro_rules! functions {
+    ($($(#[$doc:meta])* fn $name:ident($($argument:ident: $type:ty),* $(,)?);)*) => {
+        extern "C" {
+            $($(#[$doc])* pub fn $name($($argument: $type),*) -> u8;)*
+        }
+    };
+}
+
+type In = *const u8;
+type Out = *mut u8;
+type Len = *mut usize;
+
+functions! {
+    fn tink_keyset_create(t: In, tn: usize, json: bool, r: In, rn: usize, o: Out, on: usize, w: Len);
+    fn tink_keyset_rotate(k: In, kn: usize, t: In, tn: usize, any: bool, r: In, rn: usize, o: Out, on: usize, w: Len);
+    fn tink_keyset_add(k: In, kn: usize, t: In, tn: usize, r: In, rn: usize, o: Out, on: usize, w: Len);
+    fn tink_keyset_promote(k: In, kn: usize, id: u32, o: Out, on: usize, w: Len);
+    fn tink_keyset_enable(k: In, kn: usize, id: u32, o: Out, on: usize, w: Len);
+    fn tink_keyset_disable(k: In, kn: usize, id: u32, o: Out, on: usize, w: Len);
+    fn tink_keyset_destroy(k: In, kn: usize, id: u32, o: Out, on: usize, w: Len);
+    fn tink_keyset_delete(k: In, kn: usize, id: u32, o: Out, on: usize, w: Len);
+    fn tink_keyset_convert(k: In, kn: usize, json: bool, o: Out, on: usize, w: Len);
+    fn tink_keyset_list(k: In, kn: usize, o: Out, on: usize, w: Len);
+    fn tink_keyset_wrap(m: In, mn: usize, k: In, kn: usize, a: In, an: usize, json: bool, r: In, rn: usize, o: Out, on: usize, w: Len);
+    fn tink_keyset_unwrap(m: In, mn: usize, k: In, kn: usize, a: In, an: usize, json: bool, o: Out, on: usize, w: Len);
+    fn tink_encrypt(k: In, kn: usize, p: In, pn: usize, a: In, an: usize, r: In, rn: usize, o: Out, on: usize, w: Len);
+    fn tink_decrypt(k: In, kn: usize, c: In, cn: usize, a: In, an: usize, o: Out, on: usize, w: Len);
+    fn tink_encrypt_deterministically(k: In, kn: usize, p: In, pn: usize, a: In, an: usize, o: Out, on: usize, w: Len);
+    fn tink_decrypt_deterministically(k: In, kn: usize, c: In, cn: usize, a: In, an: usize, o: Out, on: usize, w: Len);
+    fn tink_compute_mac(k: In, kn: usize, m: In, mn: usize, o: Out, on: usize, w: Len);
+    fn tink_verify_mac(k: In, kn: usize, t: In, tn: usize, m: In, mn: usize);
+    fn tink_compute_prf(k: In, kn: usize, i: In, n: usize, length: usize, o: Out, on: usize, w: Len);
+    fn tink_sign_token(k: In, kn: usize, p: In, pn: usize, o: Out, on: usize, w: Len);
+    fn tink_verify_token(k: In, kn: usize, t: In, tn: usize, o: Out, on: usize, w: Len);
+}
+
+/// Enough random bytes for each call that takes some.
+pub const RANDOM_KEY: usize = 576;
+pub const RANDOM_ENCRYPT: usize = 16;
+
+/// Fresh bytes of the system's random source.
+pub fn random(count: usize) -> Result<Vec<u8>, Error> {
+    let mut bytes = vec![0; count];
+    File::open("/dev/urandom")
+        .and_then(|mut source| source.read_exact(&mut bytes))
+        .map_err(|_| Error::RandomFault)?;
+    Ok(bytes)
+}
+
+/// The result of a call that gives no output.
+pub fn done(status: u8) -> Result<(), Error> {
+    if status == 0 {
+        Ok(())
+    } else {
+        Err(Error::of(status))
+    }
+}
+
+/// The output of a call, which is handed a buffer, its room and where the length goes. If the room is too small, the call
+/// is made again with the room that it asked for.
+pub fn output(room: usize, mut call: impl FnMut(Out, usize, Len) -> u8) -> Result<Vec<u8>, Error> {
+    let mut out = vec![0; room];
+    loop {
+        let mut written = 0;
+        match call(out.as_mut_ptr(), out.len(), &mut written) {
+            0 => {
+                out.truncate(written);
+                return Ok(out);
+            }
+            42 => out = vec![0; written],
+            status => return Err(Error::of(status)),
+        }
+    }
+}

@@ -1,0 +1,104 @@
+//! The vectors that each language checks, rotations, errors and threads.
+
+use tink_proved::{
+    sign_token, verify_token, Aead, DeterministicAead,
+    Error, Keyset, Mac, Prf,
+};
+
+fn from_hex(word: &str) -> Vec<u8> {
+    if word == "-" {
+        return Vec::new();
+    }
+    (0..word.len() / 2).map(|i| u8::from_str_radix(&word[2 * i..2 * i + 2], 16).unwrap()).collect()
+}
+
+#[test]
+fn vectors() {
+    let path = std::env::var("TINK_VECTORS").unwrap_or("../../tests/bindings/vectors.txt".into());
+    let text = std::fs::read_to_string(path).unwrap();
+    let mut checked = 0;
+    for line in text.lines().filter(|line| !line.starts_with('#')) {
+        let mut words = line.split(' ');
+        let kind = words.next().unwrap();
+        let d: Vec<Vec<u8>> = words.map(from_hex).collect();
+        match kind {
+            "aead" => {
+                let keyset = Keyset::from(d[0].clone());
+                let aead = Aead::new(&keyset);
+                assert_eq!(aead.decrypt(&d[4], &d[2]).unwrap(), d[1]);
+                assert_eq!(aead.decrypt(&d[4][1..], &d[2]), Err(Error::DecryptFailed));
+            }
+            "daead" => {
+                let keyset = Keyset::from(d[0].clone());
+                let daead = DeterministicAead::new(&keyset);
+                assert_eq!(daead.encrypt_deterministically(&d[1], &d[2]).unwrap(), d[3]);
+                assert_eq!(daead.decrypt_deterministically(&d[3], &d[2]).unwrap(), d[1]);
+            }
+            "mac" => {
+                let keyset = Keyset::from(d[0].clone());
+                let mac = Mac::new(&keyset);
+                assert_eq!(mac.compute(&d[1]).unwrap(), d[2]);
+                assert_eq!(mac.verify(&d[2], &d[1]), Ok(()));
+                assert_eq!(mac.verify(&d[2], b"another"), Err(Error::MacMismatch));
+            }
+            "prf" => {
+                let keyset = Keyset::from(d[0].clone());
+                assert_eq!(Prf::new(&keyset).compute(&d[1], d[2].len()).unwrap(), d[2]);
+            }
+            "token" => {
+                let keyset = Keyset::from(d[0].clone());
+                assert_eq!(sign_token(&keyset, &d[2]).unwrap(), d[1]);
+                assert_eq!(verify_token(&keyset, &d[1]).unwrap(), d[2]);
+            }
+            _ => continue,
+        }
+        checked += 1;
+    }
+    assert!(checked >= 5);
+}
+
+#[test]
+fn a_rotation() {
+    let keyset = Keyset::create("AES128_GCM").unwrap();
+    let sealed = Aead::new(&keyset).encrypt(b"a value", b"its column").unwrap();
+    let old = keyset.keys().unwrap()[0].id;
+    let keyset = keyset.rotate("AES128_GCM").unwrap();
+    assert_eq!(Aead::new(&keyset).decrypt(&sealed, b"its column").unwrap(), b"a value");
+    assert_eq!(keyset.promote(old).unwrap().disable(old), Err(Error::IsPrimary));
+    let keyset = keyset.disable(old).unwrap();
+    assert_eq!(Aead::new(&keyset).decrypt(&sealed, b"its column"), Err(Error::DecryptFailed));
+    let keyset = keyset.enable(old).unwrap().destroy(old).unwrap().delete(old).unwrap();
+    assert_eq!(keyset.keys().unwrap().len(), 1);
+    assert_eq!(keyset.add("AES128_GCM").unwrap().keys().unwrap().len(), 2);
+    assert_eq!(keyset.rotate("AES256_SIV"), Err(Error::WrongPrimitive));
+    assert_eq!(Keyset::from(keyset.to_binary().unwrap()).to_json().unwrap(), keyset.as_bytes());
+    assert_eq!(format!("{keyset:?}"), "Keyset");
+}
+
+#[test]
+fn a_wrapped_keyset() {
+    let (master, keyset) = (Keyset::create("AES256_GCM").unwrap(), Keyset::create("AES256_SIV").unwrap());
+    let wrapped = keyset.wrap(&master, b"machine-1").unwrap();
+    assert_eq!(Keyset::unwrap(&wrapped, &master, b"machine-1"), Ok(keyset));
+    assert_eq!(Keyset::unwrap(&wrapped, &master, b"machine-2"), Err(Error::MasterFailed));
+}
+
+#[test]
+fn functions_and_threads() {
+    let functions = Keyset::create("HKDF_SHA256").unwrap();
+    let prf = Prf::new(&functions);
+    assert_eq!(prf.compute(b"input", 16).unwrap(), prf.compute(b"input", 32).unwrap()[..16]);
+    assert_eq!(prf.compute(b"input", 1 << 20), Err(Error::BadOutputLength));
+    let keyset = Keyset::create("AES256_GCM").unwrap();
+    std::thread::scope(|scope| {
+        for i in 0..2 {
+            let aead = Aead::new(&keyset);
+            scope.spawn(move || {
+                for _ in 0..50 {
+                    let sealed = aead.encrypt(&[i; 100], b"").unwrap();
+                    assert_eq!(aead.decrypt(&sealed, b"").unwrap(), [i; 100]);
+                }
+            });
+        }
+    });
+}

@@ -1,0 +1,16 @@
+use Rattle.std.proofs.Common.{◌∙◌, ℕ, List, Ok, ap, sym}
+use Rattle.std.proofs.lemmas.Result.{err_from_is_err_and}
+use Rattle.tink_c_streams.specs.Streams.{IsNoRange, IsRange}
+use Rattle.tink_c_streams.proofs.StreamSteps.{read, unread}
+use Rattle.tink_c_streams.proofs.streams.range.Goals as goal
+
+pub returns-in_err-wire : goal.returns-in_err-wire
+returns-in_err-wire c =
+    let p = err_from_is_err_and c.from_residual.result c.from_residual.ensures.1 in
+    rw (p.1, p.2) (unread c.args.file.now (λ wire. IsRange wire c.args.associated_data.now c.args.input.now c.args.start c.args.len)
+    (λ wire. IsNoRange wire c.args.associated_data.now c.args.input.now c.args.start c.args.len) c.in_err-wire.field-0.0 c.in_err-wire.ensures)
+
+pub returns : goal.returns
+returns c =
+    read c.args.file.now (λ wire. IsRange wire c.args.associated_data.now c.args.input.now c.args.start c.args.len)
+    (λ wire. IsNoRange wire c.args.associated_data.now c.args.input.now c.args.start c.args.len) c.as_slice.result.now c.range_made.result (c.in_ok-wire.ensures ∙ ap (λ (x : List ℕ). Ok x) (sym c.as_slice.ensures)) c.range_made.ensures

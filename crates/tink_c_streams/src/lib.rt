@@ -1,0 +1,6 @@
+//! Streams, their plaintexts and ranges, of inputs that are held whole, under the keyset of a file.
+#![tactic(auto)]
+
+mod streams;
+
+pub use streams::{moved, range, run_whole};

@@ -1,0 +1,292 @@
+/* The calls of libtink from C: vectors, errors that leave the buffer, refused memory, two threads and a loop of random
+ * calls. The words are the file of vectors, a seed, and the rounds of the loop. */
+#include <pthread.h>
+#include <stdio.h>
+#include <stdlib.h>
+#include <string.h>
+#include <tink.h>
+
+#define ROOM 65536
+
+static unsigned long checks;
+
+static void fail(const char *what, int line) {
+  fprintf(stderr, "test.c: line %d: %s\n", line, what);
+  exit(1);
+}
+
+#define CHECK(fact) ((void)++checks, (fact) ? (void)0 : fail(#fact, __LINE__))
+
+/* ---- memory that is refused */
+
+static long refuse_at = -1, asked;
+
+void *__real_malloc(size_t size);
+void *__real_realloc(void *old, size_t size);
+
+static int is_refused(void) { return refuse_at >= 0 && asked++ == refuse_at; }
+void *__wrap_malloc(size_t size) { return is_refused() ? NULL : __real_malloc(size); }
+void *__wrap_realloc(void *old, size_t size) { return is_refused() ? NULL : __real_realloc(old, size); }
+
+/* ---- vectors */
+
+typedef struct {
+  uint8_t *bytes;
+  size_t len;
+} data;
+
+static data from_hex(const char *word) {
+  data d = {calloc(strlen(word) / 2 + 1, 1), 0};
+  if (strcmp(word, "-") != 0)
+    for (; word[2 * d.len]; d.len++) {
+      unsigned v;
+      sscanf(word + 2 * d.len, "%2x", &v);
+      d.bytes[d.len] = (uint8_t)v;
+    }
+  return d;
+}
+
+/* Before each call the buffer is filled with a pattern, and after each error it has to be the same. */
+static uint8_t out[ROOM], before[ROOM];
+static size_t written;
+
+static void prepare(void) {
+  for (size_t i = 0; i < ROOM; i++) out[i] = before[i] = (uint8_t)(i * 7 + 3);
+  written = 12345;
+}
+
+static int untouched(void) { return memcmp(out, before, ROOM) == 0; }
+static int gave(data d) { return written == d.len && memcmp(out, d.bytes, d.len) == 0 && memcmp(out + d.len, before + d.len, ROOM - d.len) == 0; }
+
+/* A call with the room ROOM, with one byte too little, and with memory refused at each request in turn. */
+#define GIVES(want, name, ...)                                            \
+  do {                                                                    \
+    prepare();                                                            \
+    CHECK(name(__VA_ARGS__, out, ROOM, &written) == TINK_OK && gave(want)); \
+    if ((want).len > 0) {                                                 \
+      prepare();                                                          \
+      CHECK(name(__VA_ARGS__, out, (want).len - 1, &written) == TINK_TOO_LITTLE_ROOM); \
+      CHECK(untouched() && written == (want).len);                        \
+    }                                                                     \
+    for (refuse_at = 0;; refuse_at++) {                                   \
+      prepare();                                                          \
+      asked = 0;                                                          \
+      tink_status status_ = name(__VA_ARGS__, out, ROOM, &written);             \
+      if (status_ == TINK_OK) {                                                 \
+        CHECK(gave(want));                                                \
+        if (asked <= refuse_at) break;                                    \
+      } else {                                                            \
+        CHECK(status_ == TINK_OUT_OF_MEMORY && untouched() && written == 0);    \
+      }                                                                   \
+    }                                                                     \
+    refuse_at = -1;                                                       \
+  } while (0)
+
+#define REFUSES(status, name, ...)                                        \
+  do {                                                                    \
+    prepare();                                                            \
+    CHECK(name(__VA_ARGS__, out, ROOM, &written) == (status));            \
+    CHECK(untouched() && written == 0);                                   \
+  } while (0)
+
+#define D(d) (d).bytes, (d).len
+
+static void aead(data k, data p, data a, data r, data c) {
+  GIVES(c, tink_encrypt, D(k), D(p), D(a), D(r));
+  GIVES(p, tink_decrypt, D(k), D(c), D(a));
+  REFUSES(TINK_DECRYPT_FAILED, tink_decrypt, D(k), c.bytes, c.len - 1, D(a));
+  REFUSES(TINK_RANDOM_FAULT, tink_encrypt, D(k), D(p), D(a), r.bytes, r.len - 1);
+  REFUSES(TINK_BAD_KEYSET, tink_decrypt, k.bytes, k.len - 1, D(c), D(a));
+}
+
+static void daead(data k, data p, data a, data c) {
+  GIVES(c, tink_encrypt_deterministically, D(k), D(p), D(a));
+  GIVES(p, tink_decrypt_deterministically, D(k), D(c), D(a));
+}
+
+static void mac(data k, data m, data t) {
+  GIVES(t, tink_compute_mac, D(k), D(m));
+  CHECK(tink_verify_mac(D(k), D(t), D(m)) == TINK_OK);
+  CHECK(tink_verify_mac(D(k), t.bytes, t.len - 1, D(m)) == TINK_MAC_MISMATCH);
+}
+
+static void prf(data k, data i, data o) {
+  GIVES(o, tink_compute_prf, D(k), D(i), o.len);
+  REFUSES(TINK_BAD_OUTPUT_LENGTH, tink_compute_prf, D(k), D(i), (size_t)1 << 20);
+}
+
+static void token(data k, data t, data p) {
+  GIVES(t, tink_sign_token, D(k), D(p));
+  GIVES(p, tink_verify_token, D(k), D(t));
+  REFUSES(TINK_BAD_TOKEN, tink_verify_token, D(k), D(p));
+}
+
+/* A copy of the output. */
+static data kept(void) {
+  data d = {malloc(written), written};
+  memcpy(d.bytes, out, written);
+  return d;
+}
+
+/* The id of the second key of a keyset. */
+static uint32_t second_id(data k) {
+  prepare();
+  CHECK(tink_keyset_list(D(k), out, ROOM, &written) == TINK_OK);
+  return (uint32_t)strtoul(strchr((char *)out, '\n') + 1, NULL, 10);
+}
+
+static void create(data t, data r, data k) {
+  GIVES(k, tink_keyset_create, D(t), false, D(r));
+  REFUSES(TINK_UNKNOWN_TEMPLATE, tink_keyset_create, t.bytes, t.len - 1, false, D(r));
+  REFUSES(TINK_UNKNOWN_TEMPLATE, tink_keyset_create, (const uint8_t *)"\xff", 1, false, D(r));
+  REFUSES(TINK_RANDOM_FAULT, tink_keyset_create, D(t), false, r.bytes, 3);
+  /* to JSON and back, listed, rotated and edited */
+  prepare();
+  CHECK(tink_keyset_convert(D(k), true, out, ROOM, &written) == TINK_OK && out[0] == '{');
+  data json = kept();
+  GIVES(k, tink_keyset_convert, D(json), false);
+  prepare();
+  CHECK(tink_keyset_list(D(json), out, ROOM, &written) == TINK_OK && out[written - 1] == '\n');
+  uint32_t id = (uint32_t)strtoul((char *)out, NULL, 10);
+  REFUSES(TINK_IS_PRIMARY, tink_keyset_disable, D(k), id);
+  REFUSES(TINK_KEY_NOT_FOUND, tink_keyset_delete, D(k), id ^ 1);
+  prepare();
+  CHECK(tink_keyset_rotate(D(k), D(t), false, r.bytes + 200, 300, out, ROOM, &written) == TINK_OK);
+  data two = kept();
+  prepare();
+  CHECK(tink_keyset_disable(D(two), id, out, ROOM, &written) == TINK_OK);
+  data off = kept();
+  REFUSES(TINK_WRONG_KEY_STATUS, tink_keyset_promote, D(off), id);
+  GIVES(two, tink_keyset_enable, D(off), id);
+  /* promoted, destroyed and deleted; a key is added, and rotated under another primitive */
+  prepare();
+  CHECK(tink_keyset_promote(D(two), id, out, ROOM, &written) == TINK_OK);
+  data back = kept();
+  REFUSES(TINK_IS_PRIMARY, tink_keyset_destroy, D(back), id);
+  prepare();
+  CHECK(tink_keyset_destroy(D(off), id, out, ROOM, &written) == TINK_OK);
+  data gone = kept();
+  REFUSES(TINK_WRONG_KEY_STATUS, tink_keyset_enable, D(gone), id);
+  prepare();
+  CHECK(tink_keyset_delete(D(gone), id, out, ROOM, &written) == TINK_OK);
+  data one = kept();
+  REFUSES(TINK_KEY_NOT_FOUND, tink_keyset_enable, D(one), id);
+  prepare();
+  CHECK(tink_keyset_add(D(k), D(t), r.bytes + 200, 300, out, ROOM, &written) == TINK_OK);
+  data added = kept();
+  uint32_t second = second_id(added);
+  GIVES(two, tink_keyset_promote, D(added), second);
+  const char *other = memcmp(t.bytes, "HMAC", 4) == 0 ? "AES128_GCM" : "HMAC_SHA256_128BITTAG";
+  REFUSES(TINK_WRONG_PRIMITIVE, tink_keyset_rotate, D(k), (const uint8_t *)other, strlen(other), false, D(r));
+  prepare();
+  CHECK(tink_keyset_rotate(D(k), (const uint8_t *)other, strlen(other), true, D(r), out, ROOM, &written) == TINK_OK);
+  prepare();
+  CHECK(tink_keyset_list_json(D(two), out, ROOM, &written) == TINK_OK && out[0] == '[');
+  /* under a master and back */
+  prepare();
+  CHECK(tink_keyset_create((const uint8_t *)"AES128_GCM", 10, true, D(r), out, ROOM, &written) == TINK_OK);
+  data master = kept();
+  prepare();
+  CHECK(tink_keyset_wrap(D(master), D(k), D(t), true, D(r), out, ROOM, &written) == TINK_OK);
+  data wrapped = kept();
+  GIVES(wrapped, tink_keyset_wrap, D(master), D(k), D(t), true, D(r));
+  GIVES(k, tink_keyset_unwrap, D(master), D(wrapped), D(t), false);
+  REFUSES(TINK_MASTER_FAILED, tink_keyset_unwrap, D(master), D(wrapped), t.bytes, t.len - 1, false);
+  REFUSES(TINK_MASTER_FAILED, tink_keyset_wrap, D(master), D(k), D(t), true, r.bytes, 3);
+  free(json.bytes), free(two.bytes), free(off.bytes), free(back.bytes), free(gone.bytes), free(one.bytes);
+  free(added.bytes), free(master.bytes), free(wrapped.bytes);
+}
+
+static void vectors(const char *path) {
+  static char line[8192];
+  FILE *f = fopen(path, "r");
+  CHECK(f != NULL);
+  while (fgets(line, sizeof line, f)) {
+    if (line[0] == '#' || line[0] == '\n') continue;
+    data d[6];
+    int n = 0;
+    char *kind = strtok(line, " \n"), *word;
+    while ((word = strtok(NULL, " \n"))) d[n++] = from_hex(word);
+    if (!strcmp(kind, "aead")) aead(d[0], d[1], d[2], d[3], d[4]);
+    else if (!strcmp(kind, "daead")) daead(d[0], d[1], d[2], d[3]);
+    else if (!strcmp(kind, "mac")) mac(d[0], d[1], d[2]);
+    else if (!strcmp(kind, "prf")) prf(d[0], d[1], d[2]);
+    else if (!strcmp(kind, "token")) token(d[0], d[1], d[2]);
+    else if (!strcmp(kind, "create")) create(d[0], d[1], d[2]);
+    else fail(kind, __LINE__);
+    while (n) free(d[--n].bytes);
+  }
+  fclose(f);
+}
+
+/* ---- random calls */
+
+static uint64_t state;
+
+static uint64_t next(void) {
+  state ^= state << 13, state ^= state >> 7, state ^= state << 17;
+  return state;
+}
+
+static void noise(uint8_t *bytes, size_t len) {
+  while (len) bytes[--len] = (uint8_t)(next() >> 32);
+}
+
+/* Values go there and back under a keyset that is rotated on the way, and damaged ones are refused. */
+static void loop(int rounds) {
+  uint8_t random[TINK_RANDOM_KEY], keyset[4096], text[512], sealed[1024], opened[1024];
+  size_t kn, sn, on;
+  noise(random, sizeof random);
+  CHECK(tink_keyset_create((const uint8_t *)"AES128_GCM", 10, next() & 1, random, sizeof random, keyset, sizeof keyset, &kn) == TINK_OK);
+  for (int i = 0; i < rounds; i++) {
+    size_t tn = next() % sizeof text;
+    noise(text, tn);
+    noise(random, sizeof random);
+    CHECK(tink_encrypt(keyset, kn, text, tn, random, 3, random, TINK_RANDOM_ENCRYPT, sealed, sizeof sealed, &sn) == TINK_OK);
+    if (i % 16 == 0 && kn < 3000) {
+      noise(random + 16, sizeof random - 16);
+      CHECK(tink_keyset_rotate(keyset, kn, (const uint8_t *)"AES128_GCM", 10, false, random + 16, sizeof random - 16, out, ROOM, &written) == TINK_OK);
+      memcpy(keyset, out, kn = written);
+    }
+    CHECK(tink_decrypt(keyset, kn, sealed, sn, random, 3, opened, sizeof opened, &on) == TINK_OK && on == tn && memcmp(opened, text, tn) == 0);
+    sealed[next() % sn] ^= (uint8_t)(1u << (next() % 8));
+    memset(opened, 170, sizeof opened);
+    CHECK(tink_decrypt(keyset, kn, sealed, sn, random, 3, opened, sizeof opened, &on) == TINK_DECRYPT_FAILED && on == 0);
+    for (size_t j = 0; j < sizeof opened; j++) CHECK(opened[j] == 170);
+  }
+}
+
+/* ---- threads */
+
+static const char *shared_keyset = "080512500a480a30747970652e676f6f676c65617069732e636f6d2f676f6f676c652e63727970746f2e74696e6b2e41657347636d4b657912121a10000102030405060708090a0b0c0d0e0f1801100118052001";
+
+static void *thread(void *word) {
+  data k = from_hex(shared_keyset);
+  uint8_t random[16], sealed[128], opened[128];
+  size_t sn, on;
+  for (int i = 0; i < 200; i++) {
+    memset(random, i, sizeof random);
+    if (tink_encrypt(D(k), random, 16, random, 1, random, 12, sealed, sizeof sealed, &sn) != TINK_OK) return word;
+    if (tink_decrypt(D(k), sealed, sn, random, 1, opened, sizeof opened, &on) != TINK_OK || on != 16) return word;
+  }
+  free(k.bytes);
+  return NULL;
+}
+
+static void threads(void) {
+  pthread_t a, b;
+  void *x, *y;
+  CHECK(pthread_create(&a, NULL, thread, "a") == 0 && pthread_create(&b, NULL, thread, "b") == 0);
+  CHECK(pthread_join(a, &x) == 0 && pthread_join(b, &y) == 0);
+  CHECK(x == NULL && y == NULL);
+}
+
+int main(int argc, char **argv) {
+  if (argc < 3 || argc > 4) return 2;
+  state = strtoull(argv[2], NULL, 10) * 2 + 1;
+  vectors(argv[1]);
+  threads();
+  loop(argc == 4 ? atoi(argv[3]) : 64);
+  printf("C: %lu checks\n", checks);
+  return 0;
+}

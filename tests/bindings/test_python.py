@@ -1,0 +1,145 @@
+"""The Python package: the vectors, keysets, errors and buffers."""
+
+import ctypes
+import os
+import sys
+import threading
+import unittest
+
+sys.path.insert(0, os.path.join(os.path.dirname(os.path.abspath(__file__)), "../../bindings/python"))
+
+import tink_proved  # noqa: E402
+from tink_proved import Aead, DeterministicAead, Keyset, Mac, Prf  # noqa: E402
+from tink_proved import _library as lib  # noqa: E402
+
+
+def vectors():
+    with open(os.environ["TINK_VECTORS"]) as file:
+        for line in file:
+            if line.strip() and not line.startswith("#"):
+                kind, *parts = line.split()
+                yield kind, [b"" if part == "-" else bytes.fromhex(part) for part in parts]
+
+
+class Vectors(unittest.TestCase):
+    def test_vectors(self):
+        seen = set()
+        for kind, parts in vectors():
+            seen.add(kind)
+            getattr(self, kind)(*parts)
+        self.assertEqual(seen, {"aead", "daead", "mac", "prf", "token", "create"})
+
+    def aead(self, keyset, plaintext, data, random, ciphertext):
+        self.assertEqual(lib.output("tink_encrypt", 0, keyset, plaintext, data, random), ciphertext)
+        aead = Aead(Keyset(keyset))
+        self.assertEqual(aead.decrypt(ciphertext, data), plaintext)
+        with self.assertRaises(tink_proved.DecryptFailed):
+            aead.decrypt(ciphertext, data + b"x")
+
+    def daead(self, keyset, plaintext, data, ciphertext):
+        daead = DeterministicAead(Keyset(keyset))
+        self.assertEqual(daead.encrypt_deterministically(plaintext, data), ciphertext)
+        self.assertEqual(daead.decrypt_deterministically(ciphertext, data), plaintext)
+
+    def mac(self, keyset, message, tag):
+        mac = Mac(Keyset(keyset))
+        self.assertEqual(mac.compute_mac(message), tag)
+        mac.verify_mac(tag, message)
+        with self.assertRaises(tink_proved.MacMismatch):
+            mac.verify_mac(tag, message + b"x")
+
+    def prf(self, keyset, value, output):
+        self.assertEqual(Prf(Keyset(keyset)).compute(value, len(output)), output)
+
+    def token(self, keyset, token, payload):
+        self.assertEqual(tink_proved.sign_token(Keyset(keyset), payload), token)
+        self.assertEqual(tink_proved.verify_token(Keyset(keyset), token), payload)
+
+    def create(self, template, random, keyset):
+        self.assertEqual(lib.output("tink_keyset_create", 0, template, lib.boolean(False), random), keyset)
+
+
+class Keysets(unittest.TestCase):
+    def test_rotation(self):
+        keyset = Keyset.create("AES128_GCM")
+        sealed = Aead(keyset).encrypt(b"a value", b"its column")
+        old = keyset.primary_id
+        keyset = keyset.rotate("AES128_GCM")
+        self.assertNotEqual(keyset.primary_id, old)
+        self.assertEqual(Aead(keyset).decrypt(sealed, b"its column"), b"a value")
+        self.assertEqual([key.status for key in keyset.disable(old).keys()], ["disabled", "enabled"])
+        with self.assertRaises(tink_proved.DecryptFailed):
+            Aead(keyset.delete(old)).decrypt(sealed, b"its column")
+        self.assertEqual(keyset.promote(old).primary_id, old)
+        with self.assertRaises(tink_proved.IsPrimary):
+            keyset.promote(old).destroy(old)
+        self.assertEqual(len(keyset.disable(old).enable(old).add("AES128_GCM").keys()), 3)
+        with self.assertRaises(tink_proved.WrongPrimitive):
+            keyset.rotate("AES256_SIV")
+        self.assertEqual(len(keyset.rotate("AES256_SIV", to_any=True).keys()), 3)
+
+    def test_formats(self):
+        keyset = Keyset.create("AES256_GCM", json=True)
+        self.assertEqual(Keyset(keyset.to_binary()).to_json(), bytes(keyset))
+        with self.assertRaises(tink_proved.BadKeyset):
+            Keyset(b"\x0b").keys()
+        with self.assertRaises(tink_proved.BadJson):
+            Keyset(b"{").keys()
+        with self.assertRaises(tink_proved.UnknownTemplate):
+            Keyset.create("none")
+        self.assertEqual(repr(keyset), "<Keyset>")
+
+    def test_wrapping(self):
+        master, keyset = Keyset.create("AES256_GCM"), Keyset.create("HMAC_SHA256_128BITTAG")
+        wrapped = keyset.wrap(master, b"machine-1")
+        self.assertEqual(Keyset.unwrap(wrapped, master, b"machine-1").to_json(), keyset.to_json())
+        with self.assertRaises(tink_proved.MasterFailed):
+            Keyset.unwrap(wrapped, master, b"machine-2")
+
+    def test_wrong_keys(self):
+        with self.assertRaises(tink_proved.WrongPrimitive):
+            Mac(Keyset.create("AES256_GCM")).compute_mac(b"")
+
+    def test_prf(self):
+        prf = Prf(Keyset.create("HKDF_SHA256"))
+        self.assertEqual(prf.compute(b"input", 16), prf.compute(b"input", 32)[:16])
+        with self.assertRaises(tink_proved.BadOutputLength):
+            prf.compute(b"input", 1 << 20)
+
+    def test_threads(self):
+        keyset, failed = Keyset.create("AES256_GCM"), []
+
+        def work():
+            try:
+                for i in range(50):
+                    assert Aead(keyset).decrypt(Aead(keyset).encrypt(bytes(i)), b"") == bytes(i)
+            except BaseException as error:  # noqa: B902
+                failed.append(error)
+
+        threads = [threading.Thread(target=work) for _ in range(2)]
+        for thread in threads:
+            thread.start()
+        for thread in threads:
+            thread.join()
+        self.assertEqual(failed, [])
+
+
+class Buffers(unittest.TestCase):
+    def test_an_error_leaves_the_buffer(self):
+        keyset = bytes(Keyset.create("AES256_GCM"))
+        call = lib._call("tink_decrypt")
+        out, written = ctypes.create_string_buffer(b"before", 64), ctypes.c_size_t(7)
+        passed = lib._arguments([keyset, b"no ciphertext", b""])
+        status = call(*passed, out, ctypes.c_size_t(64), ctypes.byref(written))
+        self.assertEqual((status, out.value, written.value), (tink_proved.DecryptFailed.status, b"before", 0))
+
+    def test_every_exception_has_its_status(self):
+        header = os.path.join(os.path.dirname(os.path.abspath(__file__)), "../../bindings/c/tink.h")
+        with open(header) as file:
+            text = file.read()
+        for status in tink_proved.errors.BY_STATUS:
+            self.assertIn(f" = {status}", text)
+
+
+if __name__ == "__main__":
+    unittest.main()

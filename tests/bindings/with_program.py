@@ -1,0 +1,66 @@
+"""What the library makes is read by the program `tink`, and the other way round. The word is the program's path."""
+
+import os
+import subprocess
+import sys
+import tempfile
+from pathlib import Path
+
+sys.path.insert(0, str(Path(__file__).resolve().parents[2] / "bindings/python"))
+
+from tink_proved import Keyset, sign_token, verify_token  # noqa: E402
+
+PROGRAM = os.path.abspath(sys.argv[1])
+checks = 0
+
+
+def program(*words):
+    subprocess.run([PROGRAM, *words], check=True, stdout=subprocess.DEVNULL)
+
+
+def same(got, want):
+    global checks
+    assert got == want, (got, want)
+    checks += 1
+
+
+def write(name, data):
+    Path(name).write_bytes(data)
+
+
+def read(name):
+    return Path(name).read_bytes()
+
+
+def main():
+    text = bytes(range(256)) * 100
+    keys = Keyset.create("AES256_GCM_HKDF_4KB")
+    write("keys.json", bytes(keys)), write("text", text)
+    program("encrypt", "-k", "keys.json", "-o", "theirs", "text")
+    program("rotate", "keys.json", "AES128_GCM_HKDF_4KB")
+    rotated = Keyset(read("keys.json"))
+    same([key.is_primary for key in rotated.keys()], [False, True])
+    write("keys.json", bytes(rotated.promote(keys.primary_id)))
+    program("decrypt", "-k", "keys.json", "-o", "out1", "theirs")
+    same(read("out1"), text)
+    write("keys.json", bytes(keys))
+
+    macs = Keyset.create("HMAC_SHA256_128BITTAG")
+    write("macs.json", bytes(macs)), write("token", sign_token(macs, text))
+    program("verify", "-k", "macs.json", "-o", "out3", "token")
+    same(read("out3"), text)
+    program("sign", "-k", "macs.json", "-o", "token2", "text")
+    same(verify_token(macs, read("token2").strip()), text)
+
+    master = Keyset.create("AES256_GCM")
+    write("master.json", bytes(master)), write("wrapped", keys.wrap(master))
+    program("unwrap", "-k", "master.json", "-o", "out4", "wrapped")
+    same(Keyset(read("out4")).to_binary(), keys.to_binary())
+    program("wrap", "-k", "master.json", "-o", "wrapped2", "keys.json")
+    same(bytes(Keyset.unwrap(read("wrapped2"), master)), bytes(keys))
+    print(f"with the program: {checks} checks")
+
+
+with tempfile.TemporaryDirectory() as folder:
+    os.chdir(folder)
+    main()
