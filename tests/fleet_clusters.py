@@ -178,7 +178,10 @@ class Clusters(Targets, ClusterYard):
         sealed = self.manifest("seal.toml", operation="encrypt", source="plain", target="sealed", batch_files=1)
         running = self.start("run", sealed, *self.engine)
         self.assertTrue(wait_for(lambda: lines_of(self.at("seal.fleet/record.jsonl")) > 0))
+        # It is stopped, so that it is at work until the second one has ended.
+        running.send_signal(signal.SIGSTOP)
         self.run_all(sealed, status=3, says="another driver is at work")
+        running.send_signal(signal.SIGCONT)
         running.communicate(timeout=SECONDS)
         self.assertEqual(running.returncode, 0)
 
@@ -257,7 +260,7 @@ class Clusters(Targets, ClusterYard):
         for step, lines, kills in (("rewrap", 100, 0), ("rewrap", 300, 2), ("check", 300, 2)):
             running = self.start(*words)
             self.assertTrue(wait_for(lambda: self.lines_of_step(step) >= lines or running.poll() is not None))
-            self.assertIsNone(running.poll(), "the rotation ended before a kill")
+            self.assertIsNone(running.poll(), running.poll() is None or running.communicate())
             with Killer(self.cluster.processes, kills, 0.1, self.id()) as killer:
                 wait_for(lambda: killer.killed == kills)
             self.assertEqual(killer.killed, kills, "no worker was killed")

@@ -12,6 +12,7 @@ from fleet_lib import (
     Targets,
     Watcher,
     Yard,
+    files_below,
     has_listed,
     lines_of,
     local_workers,
@@ -68,22 +69,24 @@ class Operations(Targets, ParallelYard):
         self.run_all(sealed, says="2 done, 0 failed, 3 were done before")
         self.expect_streams(sealed, texts, "sealed")
 
-    def test_names_that_cannot_be_are_named(self):
-        write(self.at("plain/right"), b"x")
-        write(os.path.join(os.fsencode(self.at("plain")), b"wrong\xff"), b"y")
+    def test_names_of_any_bytes_and_a_stream_without_the_suffix(self):
+        texts = {"right": b"x", os.fsdecode(b"wrong\xff"): b"y"}
+        for name, text in texts.items():
+            write(self.at("plain", name), text)
         sealed = self.manifest("seal.toml", operation="encrypt", source="plain", target="sealed")
-        takes_bytes = subprocess.run([TINK, "keys", b"\xff"], capture_output=True, check=False).returncode != 2
-        if takes_bytes:
-            self.run_all(sealed, says="2 done, 0 failed")
-        else:
-            said = self.run_all(sealed, status=1, says="1 done, 1 failed")
-            self.assertIn("wrong\\xff': its name is no UTF-8: rename it", said)
-            self.fleet("status", sealed, status=1, says="its name is no UTF-8")
+        self.run_all(sealed, says="2 done, 0 failed")
+        self.run_all(sealed, says="0 done, 0 failed, 2 were done before")
+        tink("new", self.template, "-o", self.at("new"))
+        self.run_all(self.manifest("move.toml", operation="rewrap", source="sealed", to_keys="new"))
         write(self.at("sealed/other"), read(self.at("sealed/right.tink")))
-        opened = self.manifest("open.toml", operation="decrypt", source="sealed", target="again")
+        opened = self.manifest("open.toml", operation="decrypt", source="sealed", target="again", keys="new")
         self.run_all(opened, status=1, says="other: its name has not the suffix of streams")
-        self.assertIn("right", os.listdir(self.at("again")))
-        self.assertNotIn("other", os.listdir(self.at("again")))
+        self.fleet("status", opened, status=1, says="other: its name has not the suffix of streams")
+        self.assertEqual({name: read(self.at("again", name)) for name in files_below(self.at("again"))}, texts)
+        stream = read(self.at("sealed", os.fsdecode(b"wrong\xff.tink")))
+        write(self.at("sealed", os.fsdecode(b"wrong\xff.tink")), stream[:-1] + bytes([stream[-1] ^ 1]))
+        os.remove(self.at("again", os.fsdecode(b"wrong\xff")))
+        self.run_all(opened, status=1, says="wrong\\udcff.tink: tink: ")
 
     def test_a_file_that_is_replaced_hands_on_its_mode(self):
         texts = self.make_texts(3, 3000)
@@ -307,6 +310,8 @@ class Deaths(ParallelYard):
         sealed = self.manifest("seal.toml", operation="encrypt", source="plain", target="sealed", batch_files=1)
         running = self.start("run", sealed, *self.engine)
         self.assertTrue(wait_for(lambda: lines_of(self.at("seal.fleet/record.jsonl")) > 0))
+        # It is stopped, so that it is at work until the second one has ended.
+        running.send_signal(signal.SIGSTOP)
         self.run_all(sealed, status=3, says=f"another driver is at work (process {running.pid} of ")
         self.assertTrue(json.loads(self.fleet("status", sealed, "--json"))["is_running"])
         running.send_signal(signal.SIGKILL)
@@ -341,7 +346,7 @@ class FullDisks(ParallelYard):
         texts = self.make_texts(40, 40_000)
         sealed = self.manifest("seal.toml", operation="encrypt", source="plain", target="sealed")
         said = self.run_all(sealed, status=1)
-        self.assertRegex(said, r"sealed/.*: write fault")
+        self.assertRegex(said, r"sealed/.*: it could not be written: a full disk")
         self.expect_streams(sealed, texts, "sealed", all_done=False)
         states = [it["state"] for it in self.record(sealed).values()]
         self.assertEqual((len(states), set(states)), (40, {"done", "failed"}))

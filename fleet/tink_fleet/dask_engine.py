@@ -17,7 +17,8 @@ PATIENCE_SECONDS = 600.0
 CONNECT_SECONDS = 20
 POLL_SECONDS = 0.005
 LOOK_SECONDS = 2.0
-DESCRIBE_TRIES = 3
+# A worker that died is started again by its nanny, which takes a while on a busy machine.
+RESTART_SECONDS = 60.0
 # Guards what a worker knows of runs: a worker may have several threads.
 RUNS = threading.Lock()
 
@@ -74,6 +75,7 @@ class DaskEngine:
     def begin(self, fleet: str, run: str, say) -> None:
         """Ends what a driver that is no more left at work: its workers stop after the file that they are at."""
         self.token = run
+        self.wait_for_a_worker()
         deadline, has_said = time.monotonic() + PATIENCE_SECONDS, False
         while True:
             if not self.client.nthreads():
@@ -91,13 +93,21 @@ class DaskEngine:
                 has_said = True
             time.sleep(0.2)
 
+    def wait_for_a_worker(self) -> None:
+        deadline = time.monotonic() + CONNECT_SECONDS
+        while not self.client.nthreads() and time.monotonic() < deadline:
+            time.sleep(0.2)
+
     def describe(self, call: dict) -> list[dict]:
         """What each worker is like. One that does not answer is asked again."""
-        for _ in range(DESCRIBE_TRIES):
+        deadline = time.monotonic() + RESTART_SECONDS
+        while True:
             answers = self.client.run(perform_here, call, on_error="return")
             silent = {worker: it for worker, it in answers.items() if not isinstance(it, list)}
             if answers and not silent:
                 return [it[0] for it in answers.values()]
+            if time.monotonic() > deadline:
+                break
             time.sleep(LOOK_SECONDS)
         raise FleetError(f"{self.address}: workers do not answer, restart them: {silent or 'there is none'}")
 

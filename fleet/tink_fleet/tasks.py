@@ -314,14 +314,7 @@ def told(task: Task, outcome: Outcome):
     try:
         yield
     except TaskError as e:
-        # A program that takes words in UTF-8 alone says of another one that it is no command.
-        is_name = e.status == 2 and not is_utf8(task.path)
-        line = (
-            f"{os.fsencode(task.source)!r}: its name is no UTF-8: rename it, or install a newer tink"
-            if is_name
-            else e.line
-        )
-        failed(task, outcome, line, e.status, e.retry)
+        failed(task, outcome, e.line, e.status, e.retry)
     except OSError as e:
         place = e.filename if isinstance(e.filename, str) else task.target or task.source
         failed(task, outcome, f"{place}: {e.strerror}: {remedy(e)}", None, True)
@@ -361,7 +354,8 @@ def opened(place: str, scratch: str | None):
         file = f"/dev/fd/{fd}"
     else:
         fd = os.open(place, os.O_RDONLY | os.O_CLOEXEC)
-        file = place
+        # The program opens names in UTF-8 alone. A file of another name it gets by the descriptor.
+        file = place if is_utf8(place) else f"/dev/fd/{fd}"
     try:
         yield file, fd
     except TaskError as e:
