@@ -1,12 +1,13 @@
 //! A keyset whose keys are out of sight.
 
-ghost use Rattle.std.specs.Prelude.{◌≡◌, IfOk, IfErr, true, None, option_copied};
+ghost use Rattle.std.specs.Prelude.{◌≡◌, IfOk, IfErr, true, None, Some, option_copied};
 ghost use Rattle.tink_io.specs.declared.error.Kind.TheVariants.{HasSecrets, InvalidKeyset, OutOfMemory};
 ghost use Rattle.tink_io.specs.Told.{Answers, Replies, Tells};
 ghost use Rattle.tink_sets.specs.Entries.{entry_of};
 ghost use Rattle.keyset_model.specs.Adding.{keyset_reply};
 ghost use Rattle.keyset_model.specs.Secrets as secrets;
 ghost use Rattle.keyset_model.specs.Validity.{MayBeHeld};
+ghost use Rattle.tink_keyset_rules.specs.ShownTexts.{info_text};
 ghost use Rattle.tink_keysets.specs.Built.{built_entries, GivesSet, IsSetOf};
 ghost use Rattle.tink_keysets.specs.Managed.{added_by, no_keys, public_data, public_keyset};
 ghost use Rattle.tink_keysets.specs.Handles.{handle_of, handle_without_secrets};
@@ -200,6 +201,8 @@ fn no_manager<'a, M>(_registry: &'a Registry<M>) -> Option<&'a M>
 
 /// What `keyset_info` tells, and so no key material.
 impl fmt::Debug for Handle {
+    ghost debug_output = { λ h. Some (info_text (secrets.keyset_info h)) };
+
     fn fmt<W: fmt::Write>(&self, f: &mut fmt::Formatter<W>) -> fmt::Result {
         fmt::Display::fmt(&Shown(&self.ks), f)
     }
