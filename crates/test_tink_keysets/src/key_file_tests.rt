@@ -146,3 +146,57 @@ pub fn files_of_keys_are_listed_and_edited(alloc: Global, told: &mut Told) {
         told.expect(got, *want, row);
     }
 }
+
+// What a file begins with, what comes after it so many times, and whether the file is taken.
+const LARGE: &[(&str, &[u8], &[u8], usize, Answer)] = &[
+    ("65,536 keys", b"", b"\x12\x00", 65536, Ok(true)),
+    (
+        "65,537 keys",
+        b"",
+        b"\x12\x00",
+        65537,
+        Err(Kind::KeysetTooLong),
+    ),
+    (
+        "room for 1,048,576 values",
+        b"{",
+        b",",
+        1048575,
+        Err(Kind::BadJson),
+    ),
+    (
+        "room for 1,048,577 values",
+        b"{",
+        b",",
+        1048576,
+        Err(Kind::KeysetTooLong),
+    ),
+];
+
+// The file of a row.
+fn large_file(
+    alloc: Global,
+    start: &[u8],
+    piece: &[u8],
+    times: usize,
+) -> Result<Vec<u8>, TinkError> {
+    let mut file = Vec::from_slice(alloc, start)?;
+    for _ in 0..times {
+        file.extend_from_slice(piece)?;
+    }
+    Ok(file)
+}
+
+fn is_taken(alloc: Global, file: Result<Vec<u8>, TinkError>) -> Result<bool, TinkError> {
+    match file {
+        Ok(file) => wire_bytes(alloc, file).map(|_| true),
+        Err(e) => Err(e),
+    }
+}
+
+pub fn large_files_of_keys_are_refused(alloc: Global, told: &mut Told) {
+    for (row, start, piece, times, want) in LARGE {
+        let got = is_taken(alloc, large_file(alloc, start, piece, *times));
+        told.expect(got, *want, row);
+    }
+}

@@ -17,6 +17,7 @@ pub fn rows(alloc: Global) -> Told {
     keyset_tests::laws_can_be_called();
     keyset_tests::random_bytes_and_memory(alloc, &mut told);
     key_file_tests::files_of_keys_are_listed_and_edited(alloc, &mut told);
+    key_file_tests::large_files_of_keys_are_refused(alloc, &mut told);
     manager_tests::a_manager_adds_keys(alloc, &mut told);
     manager_tests::a_key_is_added_or_the_keyset_is_left(alloc, &mut told);
     manager_tests::public_parts_are_of_private_keys(alloc, &mut told);

@@ -3,11 +3,12 @@ use Rattle.std.specs.Prelude.{◌==◌, ◌||◌, ℕ, List, [], ◌∷◌, Bool
 use Rattle.wire_format.specs.Message.{encoded}
 use Rattle.tink_io.specs.declared.error.Kind.{Kind}
 use Rattle.tink_io.specs.declared.error.Kind.TheVariants.{BadJson}
-use Rattle.tink_io.specs.Told.{made_of, or_refused}
+use Rattle.tink_io.specs.Told.{and_then, made_of, or_refused}
 use Rattle.tink_json.specs.Messages as json
 use Rattle.tink_json.specs.Written.{keyset_value, pretty_text}
 use Rattle.tink_proto.specs.Messages.{keyset}
 use Rattle.tink_proto.specs.declared.messages.keys.Keyset.{Keyset}
+use Rattle.tink_keyset_io.specs.Room.{room_by}
 use Rattle.tink_keyset_io.specs.declared.key_files.formats.Format.{Format}
 use Rattle.tink_keyset_io.specs.declared.key_files.formats.Format.TheVariants.{Binary, Json}
 
@@ -31,9 +32,13 @@ abbrev pub wire_by : Format → List ℕ → Result (List ℕ) Kind
 wire_by Binary file = Ok file
 wire_by Json file = json_bytes file
 
--- the bytes in the wire format of the keyset of a file
+-- whether a file has room in little memory, or the refusal
+abbrev pub room_of : List ℕ → Result (Unit {0}) Kind
+room_of file = room_by (format_of file) file
+
+-- the bytes in the wire format of the keyset of a file that has room
 abbrev pub wire_of : List ℕ → Result (List ℕ) Kind
-wire_of file = wire_by (format_of file) file
+wire_of file = and_then (room_of file) (λ (room : Unit {0}). wire_by (format_of file) file)
 
 -- the bytes of a file of this format that holds the keyset
 abbrev pub file_text : Format → Keyset → List ℕ

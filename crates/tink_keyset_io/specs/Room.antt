@@ -4,7 +4,6 @@ use Rattle.wire_format.specs.Columns.{read_into}
 use Rattle.wire_format.specs.Grammar.{Field}
 use Rattle.tink_io.specs.declared.error.Kind.{Kind}
 use Rattle.tink_io.specs.declared.error.Kind.TheVariants.{BadKeyset, KeysetTooLong}
-use Rattle.tink_keyset_io.specs.Files.{format_of}
 use Rattle.tink_keyset_io.specs.declared.key_files.formats.Format.{Format}
 use Rattle.tink_keyset_io.specs.declared.key_files.formats.Format.TheVariants.{Binary, Json}
 
@@ -27,10 +26,7 @@ abbrev pub room_of_keys : Option ℕ → Result (Unit {0}) Kind
 room_of_keys None = Err BadKeyset
 room_of_keys (Some n) = up_to 65536 n
 
+-- a file of this format has at most 65,536 keys, and in JSON at most 1,048,576 of these bytes
 abbrev pub room_by : Format → List ℕ → Result (Unit {0}) Kind
 room_by Binary file = room_of_keys (keys_in file)
 room_by Json file = up_to 1048576 (count_by is_mark file)
-
--- a file has at most 65,536 keys, and in JSON at most 1,048,576 of these bytes
-abbrev pub room_of : List ℕ → Result (Unit {0}) Kind
-room_of file = room_by (format_of file) file

@@ -7,8 +7,9 @@ ghost use Rattle.tink_json.specs.Messages.{keyset as json_keyset, message_of};
 ghost use Rattle.tink_json.specs.Written.{keyset_value, pretty_text};
 ghost use Rattle.tink_proto.specs.Messages.{keyset as keyset_table};
 ghost use Rattle.wire_format.specs.Message.{encoded};
-ghost use Rattle.tink_keyset_io.specs.Files.{file_text, format_from, format_of, is_space, json_bytes, wire_of};
+ghost use Rattle.tink_keyset_io.specs.Files.{file_text, format_from, format_of, is_space, json_bytes, wire_by, wire_of};
 
+use crate::key_files::room::check_room;
 use std::alloc::Global;
 use tink_io::{Kind, TinkError};
 use tink_json::Json;
@@ -37,12 +38,24 @@ impl Format {
     }
 }
 
-/// The keyset of a file in the wire format: the bytes of the file as they are, unless it is JSON.
+/// The keyset of a file in the wire format: the bytes of the file as they are, unless it is JSON. The file is refused before
+/// it is decoded if it has no room.
 ///
 /// # Errors
-/// `BadJson` exactly where the file is JSON by its first byte, and spells no keyset; `OutOfMemory`.
+/// The first that applies: those of `check_room`; `BadJson` exactly where the file is JSON by its first byte, and spells no
+/// keyset. `OutOfMemory` may come in place of each.
 pub fn wire_bytes(alloc: Global, file: Vec<u8>) -> Result<Bytes, TinkError>
     ensures { Answers result (wire_of file.items) }
+{
+    match check_room(&file) {
+        Ok(()) => spelled(alloc, file),
+        Err(e) => Err(e),
+    }
+}
+
+// The bytes in the wire format of the keyset that a file spells.
+fn spelled(alloc: Global, file: Vec<u8>) -> Result<Bytes, TinkError>
+    ensures { Answers result (wire_by (format_of file.items) file.items) }
 {
     match Format::of_file(&file) {
         Format::Binary => Ok(Bytes::from_vec(file)),

@@ -2,7 +2,8 @@
 
 ghost use Rattle.std.specs.Prelude.{◌≡◌, ◌==◌, ◌||◌, ◌+◌, ◌-◌, ◌<◌, ◌^◌, count_by, nat_eq, if◌then◌else◌};
 ghost use Rattle.tink_io.specs.Told.{Tells};
-ghost use Rattle.tink_keyset_io.specs.Room.{is_mark, keys_in, room_of, room_of_keys, up_to};
+ghost use Rattle.tink_keyset_io.specs.Files.{room_of};
+ghost use Rattle.tink_keyset_io.specs.Room.{is_mark, keys_in, room_of_keys, up_to};
 
 use crate::key_files::formats::Format;
 use tink_io::{Kind, TinkError};
