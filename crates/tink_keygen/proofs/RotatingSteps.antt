@@ -12,7 +12,7 @@ use Rattle.tink_proto.specs.declared.messages.keys.Keyset.{Keyset}
 use Rattle.keyset_model.specs.Adding.{added, keyset_reply, reply, Added}
 use Rattle.keyset_model.specs.Adding as adding
 use Rattle.keyset_model.specs.Entries.{is_known_prefix}
-use Rattle.keyset_model.specs.Validity.{are_well_formed, is_held_keyset, is_valid, is_validated, IsValid, MayBeHeld}
+use Rattle.keyset_model.specs.Validity.{are_well_formed, has_a_primary, is_held_keyset, is_valid, is_validated, IsValid, MayBeHeld}
 use Rattle.keyset_model.proofs.EditLaws.{joined}
 use Rattle.tink_registry.specs.Listed.{manager_of, template_of, Registered}
 use Rattle.tink_keysets.specs.Encrypted.{chained}
@@ -25,7 +25,7 @@ use Rattle.tink_keygen.specs.NamedTemplates.{data_by_all, template_named}
 use Rattle.tink_keygen.specs.Rotating.{grown, grown_by, left_grown, left_grown_by, rotated, rotated_by, rotated_where, IsNotRotated}
 use Rattle.tink_keygen.proofs.IdFacts.{refused_by_ids}
 use Rattle.tink_keygen.proofs.TemplateFacts.{named_makes, MakesKeys}
-use Rattle.tink_keygen.proofs.ValidatedFacts.{formed_of, validated}
+use Rattle.tink_keygen.proofs.ValidatedFacts.{formed_of, validated, validated_beside}
 
 -- adding by the managers of the registry of all
 abbrev added_of : Bool → Registered Managers → Keyset → KeyTemplate → List ℕ → Added
@@ -76,9 +76,19 @@ known_prefix : (kt : KeyTemplate) (draws : List ℕ) (d : KeyData) → (data_by_
 unfolding data_by_all
 known_prefix kt draws d is = known_by kt draws (manager_of (λ m. (row_of m).url) kt.type_url with_everything.managers) d is
 
-pub rotated_valid : (ks new : Keyset) (kt : KeyTemplate) (draws : List ℕ) → are_well_formed ks ≡ true → rotated kt draws ks ≡ Ok new → is_held_keyset new ≡ true → is_valid new ≡ true
-rotated_valid ks new kt draws formed is held =
-    joined (is_held_keyset new) (is_validated new) held (validated ks new kt (data_by_all kt draws) (known_prefix kt draws) formed is)
+-- what is made and may be held is valid
+abbrev MakesValid : Bool → KeyTemplate → List ℕ → Keyset → Type 0
+MakesValid p kt draws ks = (new : Keyset) → grown p kt draws ks ≡ Ok new → is_held_keyset new ≡ true → is_valid new ≡ true
+
+pub rotated_valid : (p : Bool) (ks : Keyset) (kt : KeyTemplate) (draws : List ℕ) → p ≡ true → are_well_formed ks ≡ true → MakesValid p kt draws ks
+rotated_valid p ks kt draws primary formed new is held =
+    joined (is_held_keyset new) (is_validated new) held
+    (validated ks new kt (data_by_all kt draws) (known_prefix kt draws) formed (subst (λ (q : Bool). grown q kt draws ks ≡ Ok new) primary is))
+
+pub beside_valid : (p : Bool) (ks : Keyset) (kt : KeyTemplate) (draws : List ℕ) → p ≡ false → is_valid ks ≡ true → has_a_primary ks ≡ true → MakesValid p kt draws ks
+beside_valid p ks kt draws other valid has new is held =
+    joined (is_held_keyset new) (is_validated new) held
+    (validated_beside ks new kt (data_by_all kt draws) (known_prefix kt draws) valid has (subst (λ (q : Bool). grown q kt draws ks ≡ Ok new) other is))
 
 -- ---- why a keyset is not made
 
@@ -113,12 +123,11 @@ pub copied : (told : Result Keyset Kind) (ks h : Keyset) (result : Result Keyset
 copied told ks h (Ok x) is same copy want = is ∙ ap (λ (y : Keyset). Ok y) (sym (copy ∙ same))
 copied told ks h (Err e) is same copy want = inl (ap (λ (x : TinkError). x.kind) want)
 
-pub copied_valid : (p : Bool) (ks new h : Keyset) (kt : KeyTemplate) (draws : List ℕ) (result : Result Keyset TinkError) → p ≡ true → are_well_formed ks ≡ true
+-- it is valid, where each keyset that is made so is
+pub copied_valid : (p : Bool) (ks new h : Keyset) (kt : KeyTemplate) (draws : List ℕ) (result : Result Keyset TinkError) → MakesValid p kt draws ks
     → grown p kt draws ks ≡ Ok new → h ≡ new → IfOk result (λ x. x ≡ h) → IfOk result MayBeHeld → IfOk result IsValid
-copied_valid p ks new h kt draws (Ok x) primary formed is same copy held =
-    let copies : grown p kt draws ks ≡ Ok x = is ∙ ap (λ (y : Keyset). Ok y) (sym (copy ∙ same)) in
-    rotated_valid ks x kt draws formed (subst (λ (q : Bool). grown q kt draws ks ≡ Ok x) primary copies) held
-copied_valid p ks new h kt draws (Err e) primary formed is same copy held = tt
+copied_valid p ks new h kt draws (Ok x) makes is same copy held = makes x (is ∙ ap (λ (y : Keyset). Ok y) (sym (copy ∙ same))) held
+copied_valid p ks new h kt draws (Err e) makes is same copy held = tt
 
 -- no template has the name
 pub unknown : (p : Bool) (name : List ℕ) (start : Result Keyset Kind) (draws : List ℕ) (e : TinkError) → e.kind ≡ UnknownTemplate → template_named name ≡ None → (e.kind ≡ OutOfMemory) ⊎ (grown_by p name start draws ≡ Err e.kind)

@@ -1,8 +1,8 @@
--- New keys with another output prefix, and rotations to keys of the same primitive.
+-- New keys beside the primary one, new keys with another output prefix, and rotations to keys of the same primitive.
 use Rattle.std.specs.Prelude.{◌&&◌, not, ℕ, List, Bool, true, false, Option, Some, None, Result, Ok, Err, codes, bytes_eq, if◌then◌else◌}
 use Rattle.std.specs.List.{list_any}
 use Rattle.tink_io.specs.declared.error.Kind.{Kind}
-use Rattle.tink_io.specs.declared.error.Kind.TheVariants.{UnknownTemplate, WrongPrimitive}
+use Rattle.tink_io.specs.declared.error.Kind.TheVariants.{NoPrimary, UnknownTemplate, WrongPrimitive}
 use Rattle.tink_proto.specs.declared.enums.OutputPrefixType.{OutputPrefixType}
 use Rattle.tink_proto.specs.declared.messages.keys.Key.{Key}
 use Rattle.tink_proto.specs.declared.messages.keys.KeyData.{KeyData}
@@ -10,12 +10,35 @@ use Rattle.tink_proto.specs.declared.messages.keys.KeyTemplate.{KeyTemplate}
 use Rattle.tink_proto.specs.declared.messages.keys.Keyset.{Keyset}
 use Rattle.tink_proto.specs.Enums.{prefix_number}
 use Rattle.keyset_model.specs.Keys.{is_enabled}
+use Rattle.keyset_model.specs.Validity.{has_a_primary}
 use Rattle.tink_keysets.specs.Encrypted.{chained}
 use Rattle.tink_keysets.specs.Managed.{no_keys}
 use Rattle.tink_keygen.specs.NamedTemplates.{template_named}
-use Rattle.tink_keygen.specs.Rotating.{left_after, rotated}
+use Rattle.tink_keygen.specs.Rotating.{grown, left_after, left_grown, rotated}
 use Rattle.tink_keygen.specs.declared.growing.Sort.{Sort}
 use Rattle.tink_keygen.specs.declared.growing.Sort.TheVariants.{Aead, DeterministicAead, Mac, Prf, StreamingAead}
+
+-- a keyset with a new key beside its primary one
+abbrev pub grown_beside : KeyTemplate → List ℕ → Keyset → Result Keyset Kind
+grown_beside kt draws ks = if has_a_primary ks then grown false kt draws ks else Err NoPrimary
+
+abbrev pub left_beside : KeyTemplate → List ℕ → Keyset → List ℕ
+left_beside kt draws ks = if has_a_primary ks then left_grown false kt draws ks else draws
+
+abbrev pub grown_beside_where : Option KeyTemplate → Result Keyset Kind → List ℕ → Result Keyset Kind
+grown_beside_where None start draws = Err UnknownTemplate
+grown_beside_where (Some kt) start draws = chained (grown_beside kt draws) start
+
+abbrev pub grown_beside_by : List ℕ → Result Keyset Kind → List ℕ → Result Keyset Kind
+grown_beside_by name start draws = grown_beside_where (template_named name) start draws
+
+abbrev pub left_beside_where : Option KeyTemplate → Result Keyset Kind → List ℕ → List ℕ
+left_beside_where None start draws = draws
+left_beside_where (Some kt) (Err kind) draws = draws
+left_beside_where (Some kt) (Ok ks) draws = left_beside kt draws ks
+
+abbrev pub left_beside_by : List ℕ → Result Keyset Kind → List ℕ → List ℕ
+left_beside_by name start draws = left_beside_where (template_named name) start draws
 
 -- the primitive of the keys of a type, if it is known
 abbrev pub sort_of : List ℕ → Option Sort

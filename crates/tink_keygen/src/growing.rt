@@ -1,12 +1,12 @@
 //! Keys that are added for later, new keys with another output prefix, and rotations to keys of the same primitive.
 
 ghost use Rattle.std.specs.List.{list_any};
-ghost use Rattle.std.specs.Prelude.{◌≡◌, false, Ok};
-ghost use Rattle.keyset_model.specs.Keys.{is_enabled};
+ghost use Rattle.std.specs.Prelude.{◌≡◌, IfOk, Ok};
+ghost use Rattle.keyset_model.specs.Keys.{is_enabled, is_enabled_with};
+ghost use Rattle.keyset_model.specs.Validity.{IsValid, has_a_primary};
 ghost use Rattle.tink_io.specs.Told.{Answers};
-ghost use Rattle.tink_keygen.specs.Growing.{are_one, is_alike, is_unlike, left_alike, left_alike_by, left_prefixed_by, prefixed, prefixed_by, rotated_alike, rotated_alike_by, sort_of};
+ghost use Rattle.tink_keygen.specs.Growing.{are_one, grown_beside, grown_beside_by, is_alike, is_unlike, left_alike, left_alike_by, left_beside, left_beside_by, left_prefixed_by, prefixed, prefixed_by, rotated_alike, rotated_alike_by, sort_of};
 ghost use Rattle.tink.specs.Registered.{with_everything};
-ghost use Rattle.tink_keygen.specs.Rotating.{grown_by, left_grown_by};
 ghost use Rattle.tink_keysets.specs.Through.{LeavesDraws};
 ghost use Rattle.tink_keysets.specs.Valid.{valid_keyset};
 
@@ -22,27 +22,68 @@ use tink_registry::Registry;
 /// and not the primary one: it decrypts, and encrypts once it is promoted. The random bytes are taken as `rotate` takes them.
 ///
 /// # Errors
-/// Those of `rotate`.
+/// Those of `rotate`; after `InvalidKeyset` `NoPrimary` exactly if no enabled key is the primary one: a valid keyset without one
+/// has public keys alone, and with a new key it would not be valid.
 pub fn add(
     alloc: Global,
     keyset: &[u8],
     template: &str,
     draws: &mut Draws,
 ) -> Result<Keyset, TinkError>
-    ensures answer { Answers result (grown_by false template.now (valid_keyset keyset.now) draws.old) }
-    ensures rest { LeavesDraws result (left_grown_by false template.now (valid_keyset keyset.now) draws.old) draws.old draws.new }
+    ensures answer { Answers result (grown_beside_by template.now (valid_keyset keyset.now) draws.old) }
+    ensures rest { LeavesDraws result (left_beside_by template.now (valid_keyset keyset.now) draws.old) draws.old draws.new }
+    ensures valid { IfOk result IsValid }
 {
     let registry = registry(alloc)?;
     let kt = named(&registry, template)?;
     let handle = insecure::valid_handle(alloc, keyset)?;
+    with_further_key(alloc, handle, kt, &registry, draws)
+}
+
+// A keyset with a new key beside its primary one.
+fn with_further_key(
+    alloc: Global,
+    handle: Handle,
+    kt: &KeyTemplate,
+    registry: &Registry<Managers>,
+    draws: &mut Draws,
+) -> Result<Keyset, TinkError>
+    requires { registry.now ≡ with_everything }
+    ensures answer { Answers result (grown_beside kt.now draws.old handle) }
+    ensures rest { LeavesDraws result (left_beside kt.now draws.old handle) draws.old draws.new }
+    ensures valid { IsValid handle → IfOk result IsValid }
+{
+    let keyset = insecure::keyset_material(alloc, &handle)?;
+    if !has_a_primary(&keyset) {
+        return Err(TinkError::new(Kind::NoPrimary));
+    }
     with_new_key(
         alloc,
         Manager::new_from_handle(handle),
         kt,
-        &registry,
+        registry,
         draws,
         false,
     )
+}
+
+// Whether an enabled key is the primary one.
+fn has_a_primary(keyset: &Keyset) -> bool
+    ensures { result ≡ has_a_primary keyset.now }
+{
+    some_is_primary(keyset.primary_key_id, keyset.key.as_slice())
+}
+
+fn some_is_primary(id: u32, keys: &[Key]) -> bool
+    ensures { result ≡ list_any (is_enabled_with id) keys.now }
+{
+    keys.iter().any(|key| is_enabled_with(id, key))
+}
+
+fn is_enabled_with(id: u32, key: &Key) -> bool
+    ensures { result ≡ is_enabled_with id key.now }
+{
+    is_enabled(key) && key.key_id == id
 }
 
 /// `rotate`, if no enabled key of the keyset is of another primitive than the template's keys.

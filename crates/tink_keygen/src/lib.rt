@@ -1,10 +1,10 @@
 //! New and rotated keysets, by the name of a template.
 #![tactic(auto)]
 
-ghost use Rattle.std.specs.Prelude.{◌≡◌, ◌⊎◌, ◌≤◌, None, Some, Ok, IfOk, IfErr, IsTrue, MatchResult, length, true};
+ghost use Rattle.std.specs.Prelude.{◌≡◌, ◌⊎◌, ◌≤◌, None, Some, Ok, IfOk, IfErr, IsTrue, MatchResult, false, length, true};
 ghost use Rattle.tink_io.specs.declared.error.Kind.TheVariants.{OutOfMemory, UnknownTemplate};
 ghost use Rattle.tink_io.specs.Told.{Answers};
-ghost use Rattle.keyset_model.specs.Validity.{IsValid, are_well_formed};
+ghost use Rattle.keyset_model.specs.Validity.{IsValid, are_well_formed, has_a_primary};
 ghost use Rattle.tink_keysets.specs.Managed.{no_keys};
 ghost use Rattle.tink_keygen.specs.NamedTemplates.{template_named};
 ghost use Rattle.tink.specs.Registered.{with_everything};
@@ -140,6 +140,7 @@ fn with_new_key(
     ensures answer { Answers result (grown as_primary kt.now draws.old manager) }
     ensures rest { LeavesDraws result (left_grown as_primary kt.now draws.old manager) draws.old draws.new }
     ensures valid { as_primary ≡ true → IsTrue (are_well_formed manager) → IfOk result IsValid }
+    ensures beside { as_primary ≡ false → IsValid manager → IsTrue (has_a_primary manager) → IfOk result IsValid }
 {
     let mut manager = manager;
     manager.add(alloc, kt, registry, draws, as_primary)?;
