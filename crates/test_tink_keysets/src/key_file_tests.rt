@@ -21,6 +21,13 @@ const LINES: &[u8] =
 const ENABLED: &[u8] =
     b"7\tenabled\tRAW\tAesGcmHkdfStreamingKey\tprimary\n8\tenabled\tTINK\tother?key\n";
 
+// The same keys, of which none is the primary one.
+const UNPROMOTED: &[u8] = b" {\"primaryKeyId\": 9, \"key\": [
+ {\"keyData\": {\"typeUrl\": \"type.googleapis.com/google.crypto.tink.AesGcmHkdfStreamingKey\", \"value\": \"AAEC\",
+ \"keyMaterialType\": \"SYMMETRIC\"}, \"status\": \"ENABLED\", \"keyId\": 7, \"outputPrefixType\": \"RAW\"},
+ {\"keyData\": {\"typeUrl\": \"other\\u001bkey\", \"value\": \"AAEC\", \"keyMaterialType\": \"SYMMETRIC\"},
+ \"status\": \"DISABLED\", \"keyId\": 8, \"outputPrefixType\": \"TINK\"}]}";
+
 // The first key, and a destroyed one without data.
 const DESTROYED: &[u8] = b"{\"primaryKeyId\": 7, \"key\": [
  {\"keyData\": {\"typeUrl\": \"type.googleapis.com/google.crypto.tink.AesGcmHkdfStreamingKey\", \"value\": \"AAEC\",
@@ -120,6 +127,27 @@ const FILES: &[(&str, &[u8], Option<(Edit, u32)>, &[u8], Answer)] = &[
         Some((Edit::Promote, 8)),
         b"",
         Err(Kind::NotEnabled),
+    ),
+    (
+        "a primary key again",
+        UNPROMOTED,
+        Some((Edit::Promote, 7)),
+        LINES,
+        Ok(true),
+    ),
+    (
+        "no primary key after an edit",
+        UNPROMOTED,
+        Some((Edit::Enable, 8)),
+        b"",
+        Err(Kind::InvalidKeyset),
+    ),
+    (
+        "no primary key before an edit",
+        UNPROMOTED,
+        Some((Edit::Delete, 8)),
+        b"",
+        Err(Kind::InvalidKeyset),
     ),
     (
         "no keyset in JSON",

@@ -44,3 +44,11 @@ wire_of file = and_then (room_of file) (λ (room : Unit {0}). wire_by (format_of
 abbrev pub file_text : Format → Keyset → List ℕ
 file_text Binary ks = encoded keyset.write ks
 file_text Json ks = pretty_text (keyset_value ks)
+
+-- a file that has room, or the refusal
+abbrev pub fitting : List ℕ → Result (List ℕ) Kind
+fitting file = made_of (λ (room : Unit {0}). file) (room_of file)
+
+-- the file of this format that holds the keyset, if it has room: else it could not be read again
+abbrev pub filed : Format → Keyset → Result (List ℕ) Kind
+filed format ks = fitting (file_text format ks)

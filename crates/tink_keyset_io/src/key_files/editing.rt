@@ -1,15 +1,18 @@
 //! A key of a file is changed.
 
-ghost use Rattle.std.specs.Prelude.{◌≡◌, Ok, Err};
+ghost use Rattle.std.specs.Prelude.{◌≡◌, Ok, Err, IfOk, IfErr};
 ghost use Rattle.keyset_model.specs.Edits as edits;
+ghost use Rattle.keyset_model.specs.Validity.{IsValid, MayBeHeld};
 ghost use Rattle.tink_io.specs.Told.{Answers};
+ghost use Rattle.tink_io.specs.declared.error.Kind.TheVariants.{OutOfMemory};
 ghost use Rattle.tink_keysets.specs.Told.{Edits};
-ghost use Rattle.tink_keyset_io.specs.Edited.{edited, edited_by, edited_file};
+ghost use Rattle.tink_keysets.specs.Valid.{valid_or_refused};
+ghost use Rattle.tink_keyset_io.specs.Edited.{edited, edited_by, edited_file, held_keyset, start_of};
 
 use crate::key_files::formats::{Format, as_file, wire_bytes};
 use std::alloc::Global;
 use tink_io::TinkError;
-use tink_keysets::keyset::{Manager, insecure};
+use tink_keysets::keyset::{Handle, Manager, insecure, validate};
 use tink_proto::{Bytes, Keyset};
 
 /// What is done with the first key of an id.
@@ -25,24 +28,27 @@ pub enum Edit {
     Delete,
 }
 
-/// The valid keyset that bytes spell in the wire format, with the first key of the id changed.
+/// The keyset that bytes spell in the wire format, with the first key of the id changed. It is valid afterwards. To promote
+/// or to enable a key may repair a keyset that is not valid; for the other edits it has to be valid before.
 ///
 /// # Errors
-/// `BadKeyset` exactly where the bytes spell none, `InvalidKeyset` exactly where it is not valid; then those of the
-/// command of `Manager`; `OutOfMemory` may come in place of each.
+/// The first that applies: `BadKeyset` exactly if the bytes spell none; `InvalidKeyset` exactly if no handle may hold it, and
+/// for the other edits if it is not valid; those of the command of `Manager`; `InvalidKeyset` exactly if the edited keyset is
+/// not valid. `OutOfMemory` may come in place of each.
 pub fn edited(alloc: Global, keyset: &[u8], edit: Edit, id: u32) -> Result<Keyset, TinkError>
-    ensures { Answers result (edited keyset.now edit id) }
+    ensures answer { Answers result (edited keyset.now edit id) }
+    ensures valid { IfOk result IsValid }
 {
-    let handle = insecure::valid_handle(alloc, keyset)?;
+    let handle = start_of(alloc, edit, keyset)?;
     let mut manager = Manager::new_from_handle(handle);
     change(&mut manager, edit, id)?;
-    material(alloc, &manager)
+    valid_material(alloc, &manager)
 }
 
 /// The file with its keyset edited, in the format that it has.
 ///
 /// # Errors
-/// `BadJson` exactly where the file is JSON by its first byte, and spells no keyset; then those of `edited`.
+/// The first that applies: those of `wire_bytes`; those of `edited`; `KeysetTooLong` exactly if the edited file has no room.
 pub fn edited_file(alloc: Global, file: Vec<u8>, edit: Edit, id: u32) -> Result<Bytes, TinkError>
     ensures { Answers result (edited_file file.items edit id) }
 {
@@ -50,6 +56,24 @@ pub fn edited_file(alloc: Global, file: Vec<u8>, edit: Edit, id: u32) -> Result<
     let keyset = wire_bytes(alloc, file)?;
     let keyset = edited(alloc, keyset.as_slice(), edit, id)?;
     as_file(alloc, format, &keyset)
+}
+
+// A handle of the keyset that is edited.
+fn start_of(alloc: Global, edit: Edit, keyset: &[u8]) -> Result<Handle, TinkError>
+    ensures { Answers result (start_of edit keyset.now) }
+{
+    match edit {
+        Edit::Promote | Edit::Enable => held(alloc, keyset),
+        Edit::Disable | Edit::Destroy | Edit::Delete => insecure::valid_handle(alloc, keyset),
+    }
+}
+
+// A handle of the keyset that bytes spell, whatever its keys are.
+fn held(alloc: Global, keyset: &[u8]) -> Result<Handle, TinkError>
+    ensures { Answers result (held_keyset keyset.now) }
+{
+    let keyset = insecure::decode(alloc, keyset)?;
+    insecure::new_handle(keyset)
 }
 
 // Does the command.
@@ -65,9 +89,34 @@ fn change(manager: &mut Manager, edit: Edit, id: u32) -> Result<(), TinkError>
     }
 }
 
+// A copy of a manager's keyset, if it is valid.
+fn valid_material(alloc: Global, manager: &Manager) -> Result<Keyset, TinkError>
+    ensures answer { Answers result (valid_or_refused manager.now) }
+    ensures valid { IfOk result IsValid }
+{
+    match material(alloc, manager) {
+        Ok(keyset) => validated(keyset),
+        Err(e) => Err(e),
+    }
+}
+
+// A keyset that a handle held, if it is valid.
+fn validated(keyset: Keyset) -> Result<Keyset, TinkError>
+    requires { MayBeHeld keyset }
+    ensures answer { Answers result (valid_or_refused keyset) }
+    ensures valid { IfOk result IsValid }
+{
+    match validate(&keyset) {
+        Ok(()) => Ok(keyset),
+        Err(refusal) => Err(refusal),
+    }
+}
+
 // A copy of a manager's keyset.
 fn material(alloc: Global, manager: &Manager) -> Result<Keyset, TinkError>
-    ensures { Answers result (Ok manager.now) }
+    ensures keyset { IfOk result (λ ks. ks ≡ manager.now) }
+    ensures held { IfOk result MayBeHeld }
+    ensures err { IfErr result (λ e. e ≡ record { kind = OutOfMemory }) }
 {
     let handle = manager.handle(alloc)?;
     insecure::keyset_material(alloc, &handle)

@@ -1,13 +1,13 @@
 //! The formats of a file of keys.
 
 ghost use Rattle.std.specs.Prelude.{◌≡◌, ◌==◌, ◌||◌, IfOk, IfErr, Ok};
-ghost use Rattle.tink_io.specs.Told.{Answers, made_of, or_refused};
+ghost use Rattle.tink_io.specs.Told.{Answers, Tells, made_of, or_refused};
 ghost use Rattle.tink_io.specs.declared.error.Kind.TheVariants.{BadJson, OutOfMemory};
 ghost use Rattle.tink_json.specs.Messages.{keyset as json_keyset, message_of};
 ghost use Rattle.tink_json.specs.Written.{keyset_value, pretty_text};
 ghost use Rattle.tink_proto.specs.Messages.{keyset as keyset_table};
 ghost use Rattle.wire_format.specs.Message.{encoded};
-ghost use Rattle.tink_keyset_io.specs.Files.{file_text, format_from, format_of, is_space, json_bytes, wire_by, wire_of};
+ghost use Rattle.tink_keyset_io.specs.Files.{file_text, filed, fitting, format_from, format_of, is_space, json_bytes, room_of, wire_by, wire_of};
 
 use crate::key_files::room::check_room;
 use std::alloc::Global;
@@ -63,11 +63,29 @@ fn spelled(alloc: Global, file: Vec<u8>) -> Result<Bytes, TinkError>
     }
 }
 
-/// The bytes of a file of this format that holds the keyset.
+/// The bytes of a file of this format that holds the keyset. The file has room: `wire_bytes` does not refuse it as too long.
 ///
 /// # Errors
-/// `OutOfMemory` alone.
+/// `KeysetTooLong` exactly if the file has no room; `OutOfMemory` may come in its place.
 pub fn as_file(alloc: Global, format: Format, keyset: &Keyset) -> Result<Bytes, TinkError>
+    ensures answer { Answers result (filed format keyset.now) }
+    ensures room { IfOk result (λ b. room_of b ≡ Ok tt) }
+{
+    let file = text_of(alloc, format, keyset)?;
+    fitting(file)
+}
+
+// A file that has room.
+fn fitting(file: Bytes) -> Result<Bytes, TinkError>
+    ensures answer { Tells result (fitting file) }
+    ensures room { IfOk result (λ b. room_of b ≡ Ok tt) }
+{
+    check_room(file.as_slice())?;
+    Ok(file)
+}
+
+// The bytes of a file of this format that holds the keyset.
+fn text_of(alloc: Global, format: Format, keyset: &Keyset) -> Result<Bytes, TinkError>
     ensures text { IfOk result (λ b. b ≡ file_text format keyset.now) }
     ensures err { IfErr result (λ e. e ≡ record { kind = OutOfMemory }) }
 {
