@@ -30,7 +30,7 @@ use Rattle.tink_aead.specs.declared.factory.WrappedAead.{WrappedAead}
 use Rattle.tink_aead.proofs.RotationFacts.{ciphertexts_outlive}
 use Rattle.tink.specs.Registered.{with_everything}
 use Rattle.tink.proofs.SoundFacts.{managers_sound}
-use Rattle.tink_keyset_io.specs.Files.{file_text, format_of}
+use Rattle.tink_keyset_io.specs.Files.{filed, format_of}
 use Rattle.tink_keyset_io.specs.declared.key_files.formats.Format.{Format}
 use Rattle.tink_keyset_io.specs.declared.key_files.formats.Format.TheVariants.{Binary}
 use Rattle.tink_cli_files.specs.Masters.{IsMaster, MasterKeys, master_decrypts, master_encrypts, master_in, master_keys, master_of, valid_in_file}
@@ -142,7 +142,7 @@ returned file m keys aad draws text format result loads opens made read again an
     wrapped_outlives no_maker managed [] m m aad draws ks.0 e.0 (All-nil (Spares managed.keyset.primary_key_id)) own.2 own.2 (again ks.0 ks.1) ks.2 (opens ks.0 e.0 ks.1 ks.2) in
     let unwrapped : unwrapped_keys m text aad ≡ Ok ks.0 = ap (chained (decrypted (master_decrypts m) aad)) (read ∙ e.1) ∙ back in
     let want : returned_keys m keys aad draws ≡ Ok ks.0 = ap (chained (λ k. made_of (λ _. k) (wraps m aad draws k))) ks.1 ∙ ap (made_of (λ _. ks.0)) ks.2 in
-    subst (Answers result) (ap (made_of (file_text format)) (unwrapped ∙ sym want)) answers
+    subst (Answers result) (ap (chained (filed format)) (unwrapped ∙ sym want)) answers
 
 same_refusal : {A B C : Type 0} (f : A → B) (g : A → C) (r : Result A Kind) (kind : Kind) → made_of f r ≡ Err kind → made_of g r ≡ Err kind
 same_refusal f g (Ok v) kind is = absurd (cc)
@@ -157,6 +157,6 @@ not_returned m keys aad draws format e answers = elim answers [
 ]
   where
     by_keyset : (r : Result Keyset Kind) → made_of (λ x. x) (chained (wraps m aad draws) r) ≡ Err e.kind
-        → made_of (file_text format) (chained (λ ks. made_of (λ _. ks) (wraps m aad draws ks)) r) ≡ Err e.kind
-    by_keyset (Ok ks) is = ap (made_of (file_text format)) (same_refusal (λ x. x) (λ _. ks) (wraps m aad draws ks) e.kind is)
+        → chained (filed format) (chained (λ ks. made_of (λ _. ks) (wraps m aad draws ks)) r) ≡ Err e.kind
+    by_keyset (Ok ks) is = ap (chained (filed format)) (same_refusal (λ x. x) (λ _. ks) (wraps m aad draws ks) e.kind is)
     by_keyset (Err k) is = let same : k ≡ e.kind = cc in ap Err same

@@ -1,9 +1,8 @@
 -- What becomes of a file that is made.
-use Rattle.std.specs.Prelude.{◌≡◌, ◌⊎◌, ℕ, List, Bool, false, Result, Ok, Err, if◌then◌else◌}
+use Rattle.std.specs.Prelude.{◌≡◌, ◌⊎◌, ℕ, List, Bool, Result, Ok, Err, if◌then◌else◌}
 use Rattle.std.specs.Str.{is_utf8}
 use Rattle.std.specs.declared.option.Option.{Option}
 use Rattle.tink_io.specs.Faults.{Rose}
-use Rattle.tink_io.specs.Told.{made_of}
 use Rattle.tink_io.specs.declared.error.Kind.{Kind}
 use Rattle.tink_io.specs.declared.error.Kind.TheVariants.{OutOfMemory, UnknownTemplate, WriteFault}
 use Rattle.tink_io.specs.declared.error.TinkError.{TinkError}
@@ -11,10 +10,10 @@ use Rattle.tink_proto.specs.declared.enums.OutputPrefixType.{OutputPrefixType}
 use Rattle.tink_proto.specs.declared.messages.keys.Keyset.{Keyset}
 use Rattle.tink_keysets.specs.Encrypted.{chained}
 use Rattle.tink_keysets.specs.Valid.{valid_keyset}
-use Rattle.tink_keygen.specs.Growing.{left_alike_by, left_prefixed_by, prefixed_by, rotated_alike_by}
-use Rattle.tink_keygen.specs.Rotating.{grown_by, left_by, left_grown_by, rotated_by}
+use Rattle.tink_keygen.specs.Growing.{grown_beside_by, left_alike_by, left_beside_by, left_prefixed_by, prefixed_by, rotated_alike_by}
+use Rattle.tink_keygen.specs.Rotating.{left_by, rotated_by}
 use Rattle.tink_io.specs.Places.{IsSaved}
-use Rattle.tink_keyset_io.specs.Files.{file_text, format_of, wire_of}
+use Rattle.tink_keyset_io.specs.Files.{filed, format_of, wire_of}
 use Rattle.tink_keyset_io.specs.declared.key_files.formats.Format.{Format}
 use Rattle.tink_cli_files.specs.Masters.{valid_in_file}
 use Rattle.tink_cli_files.specs.declared.made_files.Growth.{Growth}
@@ -46,7 +45,7 @@ left_of draws leaves (Ok v) = leaves v
 
 -- the file of a new keyset by the template of a name, with this output prefix type if there is one
 abbrev pub new_file : List ℕ → Option OutputPrefixType → Format → List ℕ → Result (List ℕ) Kind
-new_file template prefix format draws = made_of (file_text format) (chained (λ name. prefixed_by prefix name draws) (name_of template))
+new_file template prefix format draws = chained (filed format) (chained (λ name. prefixed_by prefix name draws) (name_of template))
 
 -- the draws that are left of it
 abbrev pub left_of_new : List ℕ → Option OutputPrefixType → List ℕ → List ℕ
@@ -54,12 +53,12 @@ left_of_new template prefix draws = left_of draws (λ name. left_prefixed_by pre
 
 -- the keyset that bytes spell, with a new key by the template of a name
 abbrev pub grown_as : Growth → List ℕ → List ℕ → List ℕ → Result Keyset Kind
-grown_as Add bytes draws name = grown_by false name (valid_keyset bytes) draws
+grown_as Add bytes draws name = grown_beside_by name (valid_keyset bytes) draws
 grown_as Rotate bytes draws name = rotated_alike_by name (valid_keyset bytes) draws
 grown_as RotateToAny bytes draws name = rotated_by name (valid_keyset bytes) draws
 
 abbrev pub left_as : Growth → List ℕ → List ℕ → List ℕ → List ℕ
-left_as Add bytes draws name = left_grown_by false name (valid_keyset bytes) draws
+left_as Add bytes draws name = left_beside_by name (valid_keyset bytes) draws
 left_as Rotate bytes draws name = left_alike_by name (valid_keyset bytes) draws
 left_as RotateToAny bytes draws name = left_by name (valid_keyset bytes) draws
 
@@ -79,7 +78,7 @@ left_of_growth growth file template draws = left_of draws (λ bytes. left_of_nam
 
 -- the same as a file of the same format
 abbrev pub grown_file : Growth → List ℕ → List ℕ → List ℕ → Result (List ℕ) Kind
-grown_file growth file template draws = made_of (file_text (format_of file)) (grown_keyset growth file template draws)
+grown_file growth file template draws = chained (filed (format_of file)) (grown_keyset growth file template draws)
 
 -- an enabled key of another primitive may be there only if this is given
 abbrev pub growth_of : Bool → Growth
@@ -95,4 +94,4 @@ added_file file template draws = grown_file Add file template draws
 
 -- the valid keyset of a file, as a file of this format
 abbrev pub converted_file : List ℕ → Format → Result (List ℕ) Kind
-converted_file file format = made_of (file_text format) (valid_in_file file)
+converted_file file format = chained (filed format) (valid_in_file file)

@@ -12,7 +12,7 @@ use Rattle.keyset_model.specs.Spared.{Spares}
 use Rattle.tink_keysets.specs.Encrypted.{chained, decrypted, handle_of_bytes}
 use Rattle.tink_aead.specs.AeadKinds.{kind_decrypts}
 use Rattle.tink_keysets.specs.Decrypting.{OpensToNoOther}
-use Rattle.tink_keyset_io.specs.Files.{file_text}
+use Rattle.tink_keyset_io.specs.Files.{filed}
 use Rattle.tink_keyset_io.specs.declared.key_files.formats.Format.{Format}
 use Rattle.tink_cli_files.specs.Masters.{MasterKeys, master_decrypts, master_in, valid_in_file}
 use Rattle.tink_cli_files.specs.Wrapping.{wraps}
@@ -43,4 +43,4 @@ returned_keys m keys aad draws = chained (λ ks. made_of (λ _. ks) (wraps m aad
 
 -- and as a file of keys
 abbrev pub returned_file : MasterKeys → List ℕ → List ℕ → List ℕ → Format → Result (List ℕ) Kind
-returned_file m keys aad draws format = made_of (file_text format) (returned_keys m keys aad draws)
+returned_file m keys aad draws format = chained (filed format) (returned_keys m keys aad draws)

@@ -10,7 +10,7 @@ use Rattle.tink_proto.specs.Messages.{encrypted_keyset}
 use Rattle.tink_proto.specs.declared.messages.infos.EncryptedKeyset.{EncryptedKeyset}
 use Rattle.tink_proto.specs.declared.messages.keys.Keyset.{Keyset}
 use Rattle.tink_keysets.specs.Encrypted.{chained, decrypted, encrypted}
-use Rattle.tink_keyset_io.specs.Files.{file_text, format_of}
+use Rattle.tink_keyset_io.specs.Files.{filed, format_of}
 use Rattle.tink_keyset_io.specs.declared.key_files.formats.Format.{Format}
 use Rattle.tink_keyset_io.specs.declared.key_files.formats.Format.TheVariants.{Binary, Json}
 use Rattle.tink_cli_files.specs.Masters.{MasterKeys, master_decrypts, master_encrypts, valid_in_file}
@@ -59,4 +59,4 @@ unwrapped_keys m file aad = chained (decrypted (master_decrypts m) aad) (wrapped
 
 -- and as a file of keys
 abbrev pub unwrapped_file : MasterKeys → List ℕ → List ℕ → Format → Result (List ℕ) Kind
-unwrapped_file m file aad format = made_of (file_text format) (unwrapped_keys m file aad)
+unwrapped_file m file aad format = chained (filed format) (unwrapped_keys m file aad)
