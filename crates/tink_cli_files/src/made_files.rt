@@ -30,7 +30,7 @@ enum Growth {
 /// place of the template's. The key is enabled and the primary one.
 ///
 /// # Errors
-/// `UnknownTemplate` also if the name is no UTF-8; else those of `keygen` of `tink_keygen`.
+/// `UnknownTemplate` also if the name is no UTF-8; else those of `keygen` of `tink_keygen`; then those of `as_file`.
 pub fn new_file(
     alloc: Global,
     template: &[u8],
@@ -50,9 +50,8 @@ pub fn new_file(
 /// enabled key may be of another primitive.
 ///
 /// # Errors
-/// The first that applies: `BadJson` exactly if the file is JSON by its first byte, and spells no keyset.
-/// `UnknownTemplate` also if the name is no UTF-8. Those of `rotate` of `tink_keygen` if `to_any`, and else those of
-/// `rotate_alike`.
+/// The first that applies: those of `wire_bytes`; `UnknownTemplate` also if the name is no UTF-8; those of `rotate` of
+/// `tink_keygen` if `to_any`, and else those of `rotate_alike`; those of `as_file`.
 pub fn rotated_file(
     alloc: Global,
     file: Vec<u8>,
@@ -69,7 +68,8 @@ pub fn rotated_file(
 /// A file with a new key by the template of a name at its end, in its own format. The primary key and the other keys stay.
 ///
 /// # Errors
-/// Those of `rotated_file` with `to_any`.
+/// Those of `rotated_file` with `to_any`, but those of `add` in place of `rotate`: after `InvalidKeyset` `NoPrimary` exactly if
+/// the keyset has no primary key.
 pub fn added_file(
     alloc: Global,
     file: Vec<u8>,
@@ -85,8 +85,8 @@ pub fn added_file(
 /// The keyset of a file as a file of this format.
 ///
 /// # Errors
-/// The first that applies: Exactly if the file spells no keyset, `BadJson` if it is JSON by its first byte, and else
-/// `BadKeyset`. `InvalidKeyset` exactly if the keyset is not valid. `OutOfMemory` may come in place of each.
+/// The first that applies: those of `wire_bytes`; `BadKeyset` exactly if the file is not JSON by its first byte, and spells no
+/// keyset; `InvalidKeyset` exactly if the keyset is not valid; those of `as_file`. `OutOfMemory` may come in place of each.
 pub fn converted_file(alloc: Global, file: Vec<u8>, format: Format) -> Result<Bytes, TinkError>
     ensures { Answers result (converted_file file.items format) }
 {
