@@ -1,2 +1,4 @@
+pub mod Memory
+pub mod MemoryLaws
 pub mod States
 pub mod Statuses

@@ -1,5 +1,5 @@
 -- The status of what a command ended by.
-use Rattle.std.specs.Prelude.{◌≡◌, ◌⊎◌, ℕ}
+use Rattle.std.specs.Prelude.{ℕ}
 use Rattle.tink_io.specs.declared.error.Kind.{Kind}
 use Rattle.tink_io.specs.declared.error.Kind.TheVariants.{BadJson, IsPrimary, KeyNotFound, KeysetTooLong, MasterFailed, NotEnabled, RandomFault, WrongStatus}
 use Rattle.tink_io.specs.Statuses.{kind_status}

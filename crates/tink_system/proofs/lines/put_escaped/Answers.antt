@@ -1,4 +1,4 @@
-use Rattle.std.proofs.Common.{ℕ, ◌-◌, ◌≤◌, length, arith, length-drop}
+use Rattle.std.proofs.Common.{ℕ, arith, length-drop}
 use Rattle.tink_io.proofs.GatheringLemmas.{grows_then}
 use Rattle.tink_system.proofs.lines.put_escaped.Goals as goal
 
