@@ -1,4 +1,1 @@
 pub mod ClaimFacts
-pub mod KeyFileLemmas
-pub mod SavingLemmas
-pub mod WrappingLemmas

@@ -6,28 +6,30 @@ use Rattle.tink_cli_words.specs.declared.form.Action.TheVariants as actions
 use Rattle.tink_cli_words.specs.declared.form.Action.{Action}
 use Rattle.tink_cli_words.specs.LineRead.{LineRead}
 use Rattle.tink_system.specs.States.{SystemState}
-use Rattle.tink_cli_streams.specs.Performing.{KeepsFiles}
-use Rattle.tink_cli_streams.specs.Ranges.{IsRanged}
-use Rattle.tink_cli_streams.specs.Streams.{IsMade, IsMoved}
-use Rattle.tink_cli.specs.KeyFiles.{AreListed, IsConverted, IsEdited, IsGrown, IsNew}
-use Rattle.tink_cli.specs.Wrapping.{IsUnwrapped, IsWrapped}
+use Rattle.tink_cli_jobs.specs.Outputs.{KeepsFiles}
+use Rattle.tink_cli_ranges.specs.Ranges.{IsRanged}
+use Rattle.tink_cli_streams.specs.Breaking.{IsUnmade}
+use Rattle.tink_cli_streams.specs.Streams.{IsChecked, IsMade, IsMoved}
+use Rattle.tink_cli_keys.specs.KeyFiles.{AreListed, IsConverted, IsEdited, IsGrown, IsNew}
+use Rattle.tink_cli_keys.specs.Wrapping.{IsUnwrapped, IsWrapped}
 
 -- by each command
 abbrev pub IsDone : Action → LineRead → SystemState → SystemState → Option (List ℕ) → Option (List ℕ) → Type 0
 IsDone actions.New line old new got got_after = IsNew line old new got got_after
-IsDone actions.Add line old new got got_after = IsGrown actions.Add line old new
-IsDone actions.Rotate line old new got got_after = IsGrown actions.Rotate line old new
+IsDone actions.Add line old new got got_after = IsGrown actions.Add line old new × (got_after ≡ got)
+IsDone actions.Rotate line old new got got_after = IsGrown actions.Rotate line old new × (got_after ≡ got)
 IsDone actions.Keys line old new got got_after = AreListed line old got got_after × KeepsFiles old new
-IsDone actions.Promote line old new got got_after = IsEdited actions.Promote line old new
-IsDone actions.Enable line old new got got_after = IsEdited actions.Enable line old new
-IsDone actions.Disable line old new got got_after = IsEdited actions.Disable line old new
-IsDone actions.Destroy line old new got got_after = IsEdited actions.Destroy line old new
-IsDone actions.Delete line old new got got_after = IsEdited actions.Delete line old new
+IsDone actions.Promote line old new got got_after = IsEdited actions.Promote line old new × (got_after ≡ got)
+IsDone actions.Enable line old new got got_after = IsEdited actions.Enable line old new × (got_after ≡ got)
+IsDone actions.Disable line old new got got_after = IsEdited actions.Disable line old new × (got_after ≡ got)
+IsDone actions.Destroy line old new got got_after = IsEdited actions.Destroy line old new × (got_after ≡ got)
+IsDone actions.Delete line old new got got_after = IsEdited actions.Delete line old new × (got_after ≡ got)
 IsDone actions.Convert line old new got got_after = IsConverted line old new got got_after
 IsDone actions.Encrypt line old new got got_after = IsMade actions.Encrypt line old new got got_after
 IsDone actions.Decrypt line old new got got_after = IsMade actions.Decrypt line old new got got_after
 IsDone actions.Sign line old new got got_after = IsMade actions.Sign line old new got got_after
 IsDone actions.Verify line old new got got_after = IsMade actions.Verify line old new got got_after
+IsDone actions.Check line old new got got_after = IsChecked line old × KeepsFiles old new × (got_after ≡ got)
 IsDone actions.Rewrap line old new got got_after = IsMoved line old new got got_after
 IsDone actions.Range line old new got got_after = IsRanged line old new got got_after
 IsDone actions.Wrap line old new got got_after = IsWrapped line old new got got_after
@@ -50,3 +52,36 @@ IsDoneLine (Err wrong) old new got got_after = ⊥
 abbrev pub IsWrong : Result Given Wrong → Type 0
 IsWrong (Ok given) = ⊥
 IsWrong (Err wrong) = Unit {0}
+
+-- What is on standard output after an error of a command, by its status. Of the commands that are not named here nothing is said.
+abbrev pub LeavesOutput : Action → LineRead → SystemState → Option (List ℕ) → Option (List ℕ) → ℕ → Type 0
+LeavesOutput actions.Add line old got got_after status = got_after ≡ got
+LeavesOutput actions.Rotate line old got got_after status = got_after ≡ got
+LeavesOutput actions.Promote line old got got_after status = got_after ≡ got
+LeavesOutput actions.Enable line old got got_after status = got_after ≡ got
+LeavesOutput actions.Disable line old got got_after status = got_after ≡ got
+LeavesOutput actions.Destroy line old got got_after status = got_after ≡ got
+LeavesOutput actions.Delete line old got got_after status = got_after ≡ got
+LeavesOutput actions.Check line old got got_after status = got_after ≡ got
+LeavesOutput actions.Encrypt line old got got_after status = IsUnmade actions.Encrypt line old got got_after status
+LeavesOutput actions.Decrypt line old got got_after status = IsUnmade actions.Decrypt line old got got_after status
+LeavesOutput actions.Sign line old got got_after status = IsUnmade actions.Sign line old got got_after status
+LeavesOutput actions.Verify line old got got_after status = IsUnmade actions.Verify line old got got_after status
+LeavesOutput _ line old got got_after status = Unit {0}
+
+abbrev pub LeavesOutputUnless : Bool → Given → SystemState → Option (List ℕ) → Option (List ℕ) → ℕ → Type 0
+LeavesOutputUnless true given old got got_after status = Unit {0}
+LeavesOutputUnless false given old got got_after status = LeavesOutput given.action given.line old got got_after status
+
+abbrev pub LeavesOutputBy : Given → SystemState → Option (List ℕ) → Option (List ℕ) → ℕ → Type 0
+LeavesOutputBy given old got got_after status = LeavesOutputUnless given.line.help given old got got_after status
+
+-- The same of a line. An error has a status of its own, in place of which 1 comes if it is 0.
+pub record LeavesAt (given : Given) (old : SystemState) (got got_after : Option (List ℕ)) (result : ℕ) : Type 0 where
+  pub status : ℕ
+  pub is : (status ≡ 0 → ⊥) → result ≡ status
+  pub leaves : LeavesOutputBy given old got got_after status
+
+abbrev pub LeavesLine : Result Given Wrong → SystemState → Option (List ℕ) → Option (List ℕ) → ℕ → Type 0
+LeavesLine (Ok given) old got got_after result = LeavesAt given old got got_after result
+LeavesLine (Err wrong) old got got_after result = got_after ≡ got

@@ -1,19 +1,22 @@
 //! What the words of a command line ask for.
 
-ghost use Rattle.std.specs.Prelude.{◌≡◌, ◌≤◌, Some, None, true, false, OnErr, OnOk};
+ghost use Rattle.std.specs.Prelude.{◌≡◌, ◌≤◌, Some, None, true, false, IfErr, OnErr, OnOk};
 ghost use Rattle.tink_cli.specs.Claims.{EndedOverStreams, is_of_streams};
-ghost use Rattle.tink_cli.specs.Lines.{IsDoneBy, IsDoneLine, IsWrong};
-ghost use Rattle.tink_cli_streams.specs.Performing.{KeepsFiles};
+ghost use Rattle.tink_cli.specs.Lines.{IsDoneBy, IsDoneLine, IsWrong, LeavesLine, LeavesOutputBy};
+ghost use Rattle.tink_cli_jobs.specs.Outputs.{KeepsFiles};
 ghost use Rattle.tink_system.specs.States.{KeepsSystem};
+ghost use Rattle.tink_system.specs.Statuses.{trouble_status};
 ghost use Rattle.tink_cli_words.specs.Forms.{given};
 ghost use Rattle.tink_cli_words.specs.Words.{byte_words};
 
 use crate::claims::is_of_streams;
 use crate::over_streams::run_on_streams;
+use crate::showing;
 use crate::telling::tell_wrong;
-use crate::{keys, showing, wrapping};
 use std::alloc::Global;
-use tink_cli_streams::{checking, informing, ranges, streams};
+use tink_cli_keys::{keys, wrapping};
+use tink_cli_ranges::{informing, ranges};
+use tink_cli_streams::{checking, streams};
 use tink_cli_words::{Action, Given, parse};
 use tink_io::Sink;
 use tink_system::trouble::tell;
@@ -37,6 +40,8 @@ pub fn run<Y: System, K: Sink, E: Sink>(
     ensures unknown { is_of_streams (byte_words words.now) ≡ false → IsWrong (given (byte_words words.now)) → result ≡ 2 }
     ensures done { is_of_streams (byte_words words.now) ≡ false → result ≡ 0 → (Y.state system.old).is_known ≡ true
         → IsDoneLine (given (byte_words words.now)) (Y.state system.old) (Y.state system.new) (K.got sink.old) (K.got sink.new) }
+    ensures broken { is_of_streams (byte_words words.now) ≡ false → (result ≡ 0 → ⊥) → (Y.state system.old).is_known ≡ true
+        → LeavesLine (given (byte_words words.now)) (Y.state system.old) (K.got sink.old) (K.got sink.new) result }
     ensures kept { (result ≡ 0 → ⊥) → (Y.state system.old).is_known ≡ true → KeepsFiles (Y.state system.old) (Y.state system.new) }
     ensures system { KeepsSystem (Y.state system.old) (Y.state system.new) }
     ensures sink { K.same sink.old sink.new }
@@ -74,6 +79,8 @@ fn command<'w, Y: System, K: Sink>(
 ) -> Result<(), Trouble<'w>>
     ensures done { OnOk result ((Y.state system.old).is_known ≡ true → IsDoneBy given.now
         (Y.state system.old) (Y.state system.new) (K.got sink.old) (K.got sink.new)) }
+    ensures broken { IfErr result (λ t. (Y.state system.old).is_known ≡ true → LeavesOutputBy given.now
+        (Y.state system.old) (K.got sink.old) (K.got sink.new) (trouble_status t)) }
     ensures kept { OnErr result ((Y.state system.old).is_known ≡ true → KeepsFiles (Y.state system.old) (Y.state system.new)) }
     ensures system { KeepsSystem (Y.state system.old) (Y.state system.new) }
     ensures later { Y.faults system.old ≤ Y.faults system.new }

@@ -3,15 +3,11 @@
 
 mod claims;
 mod commands;
-mod keys;
 mod laws;
 mod over_streams;
-mod saving;
 mod showing;
 mod telling;
 mod texts;
-mod words;
-mod wrapping;
 
 pub use commands::run;
 pub use laws::law_streams_claimed;

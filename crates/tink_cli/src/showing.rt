@@ -3,8 +3,8 @@
 ghost use Rattle.std.specs.Prelude.{◌≡◌, IfErr};
 ghost use Rattle.tink_system.specs.Statuses.{trouble_status};
 
-use crate::saving::put;
 use std::alloc::Global;
+use tink_cli_jobs::put;
 use tink_cli_words::{Action, help_text};
 use tink_io::Sink;
 use tink_keygen::template_lines;

@@ -1,4 +1,3 @@
-pub mod LoadingLemmas
+pub mod BreakingLemmas
 pub mod MovingLemmas
 pub mod PerformingLemmas
-pub mod RangingLemmas

@@ -1,19 +1,19 @@
 -- What a task made, where it was put.
 use Rattle.std.proofs.Common.{◌≡◌, ℕ, List, [], Bool, true, false, refl, sym, ◌∙◌, subst, ap}
-use Rattle.std.specs.Prelude.{Option, Some, None, Result, Ok, Err, IfErr, IfOk, IfSome, IsErrAnd, OnOk}
+use Rattle.std.specs.Prelude.{Option, Some, None, Result, Ok, Err, IfErr, IfOk, IfSome, IsErrAnd, IsSome, OnOk}
 use Rattle.tink_io.specs.Outside.{Outside, Told}
-use Rattle.tink_io.specs.Places.{IsShown}
 use Rattle.tink_io.specs.declared.error.TinkError.{TinkError}
-use Rattle.tink_run.specs.declared.report.Command.{Command}
 use Rattle.tink_run.specs.declared.report.Command.TheVariants.{Open, Seal}
 use Rattle.tink_run.specs.declared.report.Report.{Report}
 use Rattle.tink_cli_files.specs.Streams.{IsShownWhole}
 use Rattle.tink_cli_files.specs.Tasks.{IsDone}
 use Rattle.tink_cli_files.specs.declared.tasks.Task.{Task}
 use Rattle.tink_cli_files.specs.declared.tasks.Task.TheVariants.{Rewrap, Run, Sign, Verify}
-use Rattle.tink_system.specs.States.{KeepsSystem, SystemState, content, known_content}
+use Rattle.tink_system.specs.States.{KeepsSystem, SystemState, content, known_bytes, known_content}
 use Rattle.tink_system.specs.declared.trouble.Trouble.{Trouble}
-use Rattle.tink_cli_streams.specs.Performing.{IsPerformed, IsPut, KeepsFiles, Makes, Spends, takes_random}
+use Rattle.tink_cli_jobs.specs.Outputs.{IsPut, KeepsFiles}
+use Rattle.tink_cli_jobs.proofs.OutputLemmas.{put_earlier, some_of}
+use Rattle.tink_cli_streams.specs.Performing.{IsPerformed, Makes, Spends, takes_random}
 use Rattle.tink_cli_streams.specs.Streams.{IsOpened}
 
 -- what a sink has got that has got all of a task is known
@@ -72,33 +72,39 @@ made_shown got task keyset aad drawn left old after replaces before_shown shown 
 made_shown got task keyset aad drawn left old after replaces before_shown shown file (Err e) P (Ok done) same ok refused settled = absurd refused
 made_shown got task keyset aad drawn left old after replaces before_shown shown file (Err e) P (Err t) same ok refused settled = tt
 
--- what was put after a call that changed no file
-pub put_earlier : (makes : List ℕ → Option (List ℕ) → Type 0) (old middle new : SystemState) (output : Option (List ℕ)) (got got_after : Option (List ℕ))
-    → KeepsFiles old middle → KeepsSystem old middle → IsPut makes middle new output got got_after → IsPut makes old new output got got_after
-put_earlier makes old middle new (Some output) got got_after files system put = (
-  λ file. put.0 (rw system.streams file),
-  λ name other. put.1 name (rw system.names other) ∙ files name,
-)
-put_earlier makes old middle new None got got_after files system put = (put.0, λ name. put.1 name ∙ files name)
-
 spends_later : (takes : Bool) (old middle new : SystemState) (drawn : List ℕ) → new.random ≡ middle.random → Spends takes old middle drawn → Spends takes old new drawn
 spends_later true old middle new drawn same spends = (spends.0, same ∙ spends.1)
 spends_later false old middle new drawn same spends = (spends.0, same ∙ spends.1)
 
-content_earlier : (old middle : SystemState) (input : Option (List ℕ)) → KeepsFiles old middle → KeepsSystem old middle → content middle input ≡ content old input
+pub content_earlier : (old middle : SystemState) (input : Option (List ℕ)) → KeepsFiles old middle → KeepsSystem old middle → content middle input ≡ content old input
 content_earlier old middle (Some name) files system = files name
 content_earlier old middle None files system = ap (λ (bytes : List ℕ). Some bytes) system.input
 
 known_given : (s : SystemState) (input : Option (List ℕ)) (text : List ℕ) → s.is_known ≡ true → known_content s input ≡ Some text → content s input ≡ Some text
 known_given s input text known is = rw known at is
 
+-- of an input that was opened
+pub performed_on : (task : Task) (keyset aad drawn : List ℕ) (keeps : Bool) (input output : Option (List ℕ)) (old middle new : SystemState) (left got got_after : Option (List ℕ))
+    (result : Result (Unit {0}) Trouble) → middle ≡ old → left ≡ known_content old input → (old.is_known ≡ true → IsSome (content old input))
+    → OnOk result (middle.is_known ≡ true → (text : List ℕ) → left ≡ Some text
+    → IsPut (λ before after. Makes task keyset aad drawn text before after) keeps middle new output got got_after)
+    → OnOk result (old.is_known ≡ true → (text : List ℕ) × (known_content old input ≡ Some text)
+    × IsPut (λ before after. Makes task keyset aad drawn text before after) keeps old new output got got_after)
+performed_on task keyset aad drawn keeps input output old middle new left got got_after (Ok done) same given there made = λ known.
+    let found = some_of (content old input) (there known) in
+    let read : known_content old input ≡ Some found.0 = ap (λ (b : Bool). known_bytes b (content old input)) known ∙ found.1 in
+    let put = subst (λ (s : SystemState). s.is_known ≡ true → (text : List ℕ) → left ≡ Some text
+    → IsPut (λ before after. Makes task keyset aad drawn text before after) keeps s new output got got_after) same made known found.0 (given ∙ read) in
+    (found.0, read, put)
+performed_on task keyset aad drawn keeps input output old middle new left got got_after (Err t) same given there made = tt
+
 -- a task was done by random bytes that were taken before
-pub performed : (task : Task) (keyset aad drawn : List ℕ) (input output : Option (List ℕ)) (old middle new : SystemState) (got got_after : Option (List ℕ))
+pub performed : (task : Task) (keyset aad drawn : List ℕ) (keeps : Bool) (input output : Option (List ℕ)) (old middle new : SystemState) (got got_after : Option (List ℕ))
     (result : Result (Unit {0}) Trouble)
     → KeepsFiles old middle → KeepsSystem old middle → (old.is_known ≡ true → Spends (takes_random task) old middle drawn) → new.random ≡ middle.random
-    → OnOk result (middle.is_known ≡ true → (text : List ℕ) × (known_content middle input ≡ Some text) × IsPut (Makes task keyset aad drawn text) middle new output got got_after)
-    → OnOk result (old.is_known ≡ true → IsPerformed task keyset aad input output old new got got_after)
-performed task keyset aad drawn input output old middle new got got_after (Ok done) files system spends same put = λ known.
+    → OnOk result (middle.is_known ≡ true → (text : List ℕ) × (known_content middle input ≡ Some text) × IsPut (λ before after. Makes task keyset aad drawn text before after) keeps middle new output got got_after)
+    → OnOk result (old.is_known ≡ true → IsPerformed task keyset aad keeps input output old new got got_after)
+performed task keyset aad drawn keeps input output old middle new got got_after (Ok done) files system spends same put = λ known.
     let known_then = system.known ∙ known in
     let made = put known_then in
     record {
@@ -106,9 +112,9 @@ performed task keyset aad drawn input output old middle new got got_after (Ok do
       read = sym (content_earlier old middle input files system) ∙ known_given middle input made.0 known_then made.1;
       drawn = drawn;
       draws = spends_later (takes_random task) old middle new drawn same (spends known);
-      put = put_earlier (Makes task keyset aad drawn made.0) old middle new output got got_after files system made.2;
+      put = put_earlier (λ before after. Makes task keyset aad drawn made.0 before after) keeps old middle new output got got_after files system made.2;
     }
-performed task keyset aad drawn input output old middle new got got_after (Err t) files system spends same put = tt
+performed task keyset aad drawn keeps input output old middle new got got_after (Err t) files system spends same put = tt
 
 -- all of an input was opened
 pub opened_whole : (keyset aad drawn left : List ℕ) (old new : Outside) (answer : Result (Option Report) TinkError) (P : TinkError → Trouble → Type 0)

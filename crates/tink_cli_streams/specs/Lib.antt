@@ -1,6 +1,3 @@
-pub mod Jobs
-pub mod Loading
+pub mod Breaking
 pub mod Performing
-pub mod Protecting
-pub mod Ranges
 pub mod Streams

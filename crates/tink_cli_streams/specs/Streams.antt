@@ -2,50 +2,60 @@
 use Rattle.std.specs.Prelude.{◌≡◌, ℕ, List, [], Option, Some, None, Ok, option_map}
 use Rattle.tink_cli_words.specs.LineRead.{LineRead}
 use Rattle.tink_cli_words.specs.declared.form.Action.{Action}
+use Rattle.tink_cli_words.specs.declared.form.Action.TheVariants as actions
 use Rattle.tink_io.specs.Outside.{Outside}
-use Rattle.tink_run.specs.declared.report.Command.TheVariants.{Open}
+use Rattle.tink_run.specs.declared.report.Command.TheVariants.{Open, Seal}
 use Rattle.tink_run.specs.declared.report.Report.{Report}
 use Rattle.tink_cli_files.specs.Tasks.{IsDone}
 use Rattle.tink_cli_files.specs.declared.tasks.Task.{Task}
-use Rattle.tink_cli_files.specs.declared.tasks.Task.TheVariants.{Run}
+use Rattle.tink_cli_files.specs.declared.tasks.Task.TheVariants.{Rewrap, Run, Sign, Verify}
 use Rattle.tink_system.specs.States.{SystemState, content}
-use Rattle.tink_cli_streams.specs.Jobs.{IsKeyWords, IsMoveTo, data_of, own_task}
-use Rattle.tink_cli_streams.specs.Loading.{keyset_of, named}
+use Rattle.tink_cli_jobs.specs.Jobs.{IsKeysetOf, data_of}
+use Rattle.tink_cli_jobs.specs.Loading.{keyset_of, named}
+use Rattle.tink_cli_jobs.specs.Protecting.{AreSparedOf}
+use Rattle.tink_cli_jobs.specs.declared.job.Job.{Job}
+use Rattle.tink_cli_jobs.specs.declared.keys.KeyWords.{KeyWords}
 use Rattle.tink_cli_streams.specs.Performing.{IsPerformed}
-use Rattle.tink_cli_streams.specs.declared.job.Job.{Job}
-use Rattle.tink_cli_streams.specs.declared.keys.KeyWords.{KeyWords}
 
--- The keyset of the words: that of their file of keys, under their master.
-pub record IsKeysetOf (line : LineRead) (s : SystemState) (name : Option (List ℕ)) (keyset : List ℕ) : Type 0 where
-  pub file : List ℕ
-  pub given : name ≡ Some file
-  pub words : KeyWords
-  pub are : IsKeyWords line file words
-  pub loaded : keyset_of s words ≡ Ok keyset
+-- what a command makes of its input under its own keys
+abbrev pub own_task : Action → Option Task
+own_task actions.Encrypt = Some (Run Seal)
+own_task actions.Decrypt = Some (Run Open)
+own_task actions.Sign = Some Sign
+own_task actions.Verify = Some Verify
+own_task _ = None
 
--- the task of a command was done: of the input and to the output that the words name, under their keyset and data
+-- a move to this keyset, with this data
+abbrev pub IsMoveTo : List ℕ → List ℕ → Task → Type 0
+IsMoveTo keyset aad (Rewrap to to_aad) = (to.now ≡ keyset) × (to_aad.now ≡ aad)
+IsMoveTo keyset aad _ = ⊥
+
+-- The task of a command was done: of the input and to the output that the words name, under their keyset and data. The output
+-- is none of their files of keys.
 pub record IsMade (action : Action) (line : LineRead) (old new : SystemState) (got got_after : Option (List ℕ)) : Type 0 where
   pub task : Task
   pub is_of : own_task action ≡ Some task
   pub keyset : List ℕ
   pub keys : IsKeysetOf line old line.keys keyset
-  pub done : IsPerformed task keyset (data_of line.aad) (named line.first) (named line.output) old new got got_after
+  pub spared : AreSparedOf old line
+  pub done : IsPerformed task keyset (data_of line.aad) line.no_clobber (named line.first) (named line.output) old new got got_after
 
--- the stream was moved to the keyset and data that the words name
+-- The stream was moved to the keyset and data that the words name. The output is none of their files of keys.
 pub record IsMoved (line : LineRead) (old new : SystemState) (got got_after : Option (List ℕ)) : Type 0 where
   pub keyset : List ℕ
   pub keys : IsKeysetOf line old line.keys keyset
   pub new_keyset : List ℕ
   pub new_keys : IsKeysetOf line old line.to new_keyset
+  pub spared : AreSparedOf old line
   pub task : Task
   pub is_to : IsMoveTo new_keyset (data_of line.to_aad) task
-  pub done : IsPerformed task keyset (data_of line.aad) (named line.first) (named line.output) old new got got_after
+  pub done : IsPerformed task keyset (data_of line.aad) line.no_clobber (named line.first) (named line.output) old new got got_after
 
 -- the same from and to these keysets
 pub record IsMovedTo (keyset new_keyset : List ℕ) (job : Job) (old new : SystemState) (got got_after : Option (List ℕ)) : Type 0 where
   pub task : Task
   pub is_to : IsMoveTo new_keyset job.new_aad.now task
-  pub done : IsPerformed task keyset job.aad.now (option_map (λ n. n.now) job.input) (option_map (λ n. n.now) job.output) old new got got_after
+  pub done : IsPerformed task keyset job.aad.now job.keeps_output (option_map (λ n. n.now) job.input) (option_map (λ n. n.now) job.output) old new got got_after
 
 pub record IsMovedFrom (keyset : List ℕ) (job : Job) (old new : SystemState) (got got_after : Option (List ℕ)) : Type 0 where
   pub words : KeyWords

@@ -4,11 +4,11 @@ ghost use Rattle.std.specs.Prelude.{◌≡◌, ◌≤◌, ℕ, List, Some, true,
 ghost use Rattle.tink_cli_streams.specs.Streams.{IsChecked, IsOpened};
 ghost use Rattle.tink_system.specs.States.{known_content};
 
-use crate::job::{Job, job_of};
-use crate::keys::keyset_of;
-use crate::performing::{WRITE_FAULT, ended};
+use crate::performing::ended;
 use std::alloc::Global;
 use tink_cli_files::{Task, write_task};
+use tink_cli_jobs::keys::keyset_of;
+use tink_cli_jobs::{Job, WRITE_FAULT, job_of};
 use tink_cli_words::Line;
 use tink_io::{Discard, Draws};
 use tink_run::report::Command;

@@ -1,19 +1,18 @@
 //! A task is done: of an input, to an output.
 
-ghost use Rattle.std.specs.Prelude.{◌≡◌, ◌≤◌, ℕ, List, [], Some, None, Ok, true, IfErr, IfOk, IsErrAnd, OnErr, OnOk, option_map};
-ghost use Rattle.tink_cli_streams.specs.Performing.{IsPerformed, IsPut, KeepsFiles, KeepsOtherFiles, Makes, Spends, takes_random};
+ghost use Rattle.std.specs.Prelude.{◌≡◌, ◌≤◌, ℕ, List, Some, None, Ok, true, false, IfErr, IfOk, IfSome, IsErrAnd, OnErr, OnOk, option_map};
+ghost use Rattle.tink_cli_jobs.specs.Outputs.{IsInFile, IsPut, KeepsFiles, KeepsOtherFiles};
+ghost use Rattle.tink_cli_streams.specs.Breaking.{Breaks, IsUnperformed, MayBreak};
+ghost use Rattle.tink_cli_streams.specs.Performing.{IsPerformed, Makes, Spends, takes_random};
 ghost use Rattle.tink_system.specs.States.{KeepsSystem, known_content};
 ghost use Rattle.tink_system.specs.Statuses.{refusal_status, trouble_status};
 
-use crate::job::Job;
 use std::alloc::Global;
 use tink_cli_files::{Task, save_task, write_task};
+use tink_cli_jobs::{DRAWN, Job, WRITE_FAULT, how_of};
 use tink_io::{Draws, Kind, Sink, TinkError};
 use tink_run::report::{Command, Report};
-use tink_system::{How, System, Trouble};
-
-/// So many random bytes are enough for each command.
-pub const DRAWN: usize = 1024;
+use tink_system::{System, Trouble};
 
 /// Does a task of the job's input, under a keyset and the job's associated data, to the job's output.
 ///
@@ -28,9 +27,11 @@ pub fn perform<'w, Y: System, K: Sink>(
     job: &Job<'w>,
     sink: &mut K,
 ) -> Result<(), Trouble<'w>>
-    ensures done { OnOk result ((Y.state system.old).is_known ≡ true → IsPerformed task.entry keyset.now job.now.aad.now
+    ensures done { OnOk result ((Y.state system.old).is_known ≡ true → IsPerformed task.entry keyset.now job.now.aad.now job.now.keeps_output
         (option_map (λ n. n.now) job.now.input) (option_map (λ n. n.now) job.now.output)
         (Y.state system.old) (Y.state system.new) (K.got sink.old) (K.got sink.new)) }
+    ensures broken { IfErr result (λ t. (Y.state system.old).is_known ≡ true → IsUnperformed task.entry keyset.now job.now.aad.now
+        (option_map (λ n. n.now) job.now.input) (Y.state system.old) (K.got sink.old) (K.got sink.new) (trouble_status t)) }
     ensures kept { OnErr result ((Y.state system.old).is_known ≡ true → KeepsFiles (Y.state system.old) (Y.state system.new)) }
     ensures system { KeepsSystem (Y.state system.old) (Y.state system.new) }
     ensures later { Y.faults system.old ≤ Y.faults system.new }
@@ -72,8 +73,10 @@ fn perform_by<'w, Y: System, K: Sink>(
 ) -> Result<(), Trouble<'w>>
     ensures done { OnOk result ((Y.state system.old).is_known ≡ true → (text : List ℕ)
         × (known_content (Y.state system.old) (option_map (λ n. n.now) job.now.input) ≡ Some text)
-        × IsPut (Makes task.entry keyset.now job.now.aad.now draws.old text) (Y.state system.old) (Y.state system.new)
-        (option_map (λ n. n.now) job.now.output) (K.got sink.old) (K.got sink.new)) }
+        × IsPut (λ before after. Makes task.entry keyset.now job.now.aad.now draws.old text before after) job.now.keeps_output
+        (Y.state system.old) (Y.state system.new) (option_map (λ n. n.now) job.now.output) (K.got sink.old) (K.got sink.new)) }
+    ensures broken { IfErr result (λ t. MayBreak task.entry keyset.now job.now.aad.now draws.old
+        (known_content (Y.state system.old) (option_map (λ n. n.now) job.now.input)) (K.got sink.old) (K.got sink.new) (trouble_status t)) }
     ensures kept { OnErr result ((Y.state system.old).is_known ≡ true → KeepsFiles (Y.state system.old) (Y.state system.new)) }
     ensures system { KeepsSystem (Y.state system.old) (Y.state system.new) }
     ensures random { (Y.state system.new).random ≡ (Y.state system.old).random }
@@ -98,8 +101,10 @@ fn perform_on<'w, Y: System, K: Sink>(
     sink: &mut K,
 ) -> Result<(), Trouble<'w>>
     ensures done { OnOk result ((Y.state system.old).is_known ≡ true → (text : List ℕ) → Y.Input.left input.old ≡ Some text
-        → IsPut (Makes task.entry keyset.now job.now.aad.now draws.old text) (Y.state system.old) (Y.state system.new)
-        (option_map (λ n. n.now) job.now.output) (K.got sink.old) (K.got sink.new)) }
+        → IsPut (λ before after. Makes task.entry keyset.now job.now.aad.now draws.old text before after) job.now.keeps_output
+        (Y.state system.old) (Y.state system.new) (option_map (λ n. n.now) job.now.output) (K.got sink.old) (K.got sink.new)) }
+    ensures broken { IfErr result (λ t. MayBreak task.entry keyset.now job.now.aad.now draws.old (Y.Input.left input.old)
+        (K.got sink.old) (K.got sink.new) (trouble_status t)) }
     ensures kept { OnErr result ((Y.state system.old).is_known ≡ true → KeepsFiles (Y.state system.old) (Y.state system.new)) }
     ensures system { KeepsSystem (Y.state system.old) (Y.state system.new) }
     ensures random { (Y.state system.new).random ≡ (Y.state system.old).random }
@@ -125,6 +130,8 @@ fn put<'w, Y: System, K: Sink>(
 ) -> Result<(), Trouble<'w>>
     ensures done { OnOk result ((text before : List ℕ) → Y.Input.left input.old ≡ Some text → K.got sink.old ≡ Some before
         → Makes task.entry keyset.now job.now.aad.now draws.old text before (K.got sink.new)) }
+    ensures broken { IfErr result (λ t. Breaks task.entry keyset.now job.now.aad.now draws.old (Y.Input.left input.old)
+        (K.got sink.old) (K.got sink.new) (trouble_status t)) }
     ensures still { system.new ≡ system.old }
     ensures sink { K.same sink.old sink.new }
 {
@@ -144,8 +151,8 @@ fn put_to<'w, Y: System>(
     output: &'w [u8],
 ) -> Result<(), Trouble<'w>>
     ensures done { OnOk result ((Y.state system.old).is_known ≡ true → (text : List ℕ) → Y.Input.left input.old ≡ Some text
-        → IsPut (Makes task.entry keyset.now job.now.aad.now draws.old text) (Y.state system.old) (Y.state system.new)
-        (Some output.now) None None) }
+        → IsInFile (λ before after. Makes task.entry keyset.now job.now.aad.now draws.old text before after) job.now.keeps_output
+        (Y.state system.old) (Y.state system.new) output.now) }
     ensures kept { OnErr result ((Y.state system.old).is_known ≡ true → KeepsFiles (Y.state system.old) (Y.state system.new)) }
     ensures system { KeepsSystem (Y.state system.old) (Y.state system.new) }
     ensures random { (Y.state system.new).random ≡ (Y.state system.old).random }
@@ -193,8 +200,8 @@ fn put_to_file<'w, Y: System>(
     output: &'w [u8],
 ) -> Result<(), Trouble<'w>>
     ensures done { OnOk result ((Y.state system.old).is_known ≡ true → (text : List ℕ) → Y.Input.left input.old ≡ Some text
-        → Makes task.entry keyset.now job.now.aad.now draws.old text [] ((Y.state system.new).file output.now)) }
-    ensures others { KeepsOtherFiles (Y.state system.old) (Y.state system.new) output.now }
+        → IsInFile (λ before after. Makes task.entry keyset.now job.now.aad.now draws.old text before after) job.now.keeps_output
+        (Y.state system.old) (Y.state system.new) output.now) }
     ensures kept { OnErr result ((Y.state system.old).is_known ≡ true → KeepsFiles (Y.state system.old) (Y.state system.new)) }
     ensures system { KeepsSystem (Y.state system.old) (Y.state system.new) }
     ensures random { (Y.state system.new).random ≡ (Y.state system.old).random }
@@ -223,6 +230,7 @@ fn put_to_draft<'w, Y: System>(
     requires { Y.Draft.has_draft draft ≡ true }
     ensures done { OnOk result ((text before : List ℕ) → Y.Input.left input.old ≡ Some text → Y.Draft.got draft ≡ Some before
         → Makes task.entry keyset.now job.now.aad.now draws.old text before ((Y.state system.new).file output.now)) }
+    ensures fresh { OnOk result (Y.Draft.replaces draft ≡ false → IfSome (Y.Draft.shown draft) (λ file. file ≡ None)) }
     ensures others { KeepsOtherFiles (Y.state system.old) (Y.state system.new) output.now }
     ensures kept { OnErr result (Y.Draft.shown draft ≡ Some ((Y.state system.old).file output.now)
         → KeepsFiles (Y.state system.old) (Y.state system.new)) }
@@ -237,18 +245,6 @@ fn put_to_draft<'w, Y: System>(
         Err(trouble) => Err(trouble),
     }
 }
-
-/// How the output of a job becomes a file.
-pub fn how_of(job: &Job<'_>) -> How {
-    if job.keeps_output {
-        How::Fresh
-    } else {
-        How::Replace
-    }
-}
-
-/// What is said of a failed standard output, of which the system keeps no reason.
-pub const WRITE_FAULT: &str = "it could not be written: a full disk, or a closed pipe";
 
 /// The end of a task by its answer: an error is that of a file, and `reason` is why the output failed, if it did.
 pub fn ended<'w, Y: System>(

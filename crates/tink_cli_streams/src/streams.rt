@@ -1,18 +1,18 @@
 //! The commands over streams and tokens.
 
 ghost use Rattle.std.specs.Prelude.{◌≡◌, ◌≤◌, true, OnErr, OnOk, IfErr};
-ghost use Rattle.tink_cli_streams.specs.Jobs.{own_task};
-ghost use Rattle.tink_cli_streams.specs.Performing.{KeepsFiles};
-ghost use Rattle.tink_cli_streams.specs.Streams.{IsMade, IsMoved, IsMovedFrom, IsMovedTo};
+ghost use Rattle.tink_cli_jobs.specs.Outputs.{KeepsFiles};
+ghost use Rattle.tink_cli_streams.specs.Breaking.{IsUnmade};
+ghost use Rattle.tink_cli_streams.specs.Streams.{IsMade, IsMoved, IsMovedFrom, IsMovedTo, own_task};
 ghost use Rattle.tink_system.specs.States.{KeepsSystem};
 ghost use Rattle.tink_system.specs.Statuses.{trouble_status};
 
-use crate::job::{Job, job_of};
-use crate::keys::keyset_of;
 use crate::performing::perform;
-use crate::protecting::spare_keys;
 use std::alloc::Global;
 use tink_cli_files::Task;
+use tink_cli_jobs::keys::keyset_of;
+use tink_cli_jobs::protecting::keyset_for;
+use tink_cli_jobs::{Job, job_of};
 use tink_cli_words::{Action, Line};
 use tink_io::Sink;
 use tink_proto::Bytes;
@@ -23,7 +23,7 @@ use tink_system::{End, System, Trouble};
 /// name, with the associated data of the words.
 ///
 /// # Errors
-/// Those of the task, of `keyset_of` and `perform`, by their statuses. No file is changed then.
+/// Those of the task, of `keyset_for` and `perform`, by their statuses. No file is changed then.
 pub fn make<'w, Y: System, K: Sink>(
     alloc: Global,
     system: &mut Y,
@@ -33,6 +33,8 @@ pub fn make<'w, Y: System, K: Sink>(
 ) -> Result<(), Trouble<'w>>
     ensures done { OnOk result ((Y.state system.old).is_known ≡ true → IsMade action line.now
         (Y.state system.old) (Y.state system.new) (K.got sink.old) (K.got sink.new)) }
+    ensures broken { IfErr result (λ t. (Y.state system.old).is_known ≡ true → IsUnmade action line.now
+        (Y.state system.old) (K.got sink.old) (K.got sink.new) (trouble_status t)) }
     ensures kept { OnErr result ((Y.state system.old).is_known ≡ true → KeepsFiles (Y.state system.old) (Y.state system.new)) }
     ensures system { KeepsSystem (Y.state system.old) (Y.state system.new) }
     ensures later { Y.faults system.old ≤ Y.faults system.new }
@@ -41,9 +43,8 @@ pub fn make<'w, Y: System, K: Sink>(
     let (Some(task), Some(job)) = (task_of(action), job_of(line)) else {
         return Err(Trouble::Usage);
     };
-    spare_keys(system, &job)?;
     spare_terminal(system, task, &job)?;
-    match keyset_of(alloc, system, job.keys) {
+    match keyset_for(alloc, system, &job) {
         Ok(keyset) => perform(alloc, system, task, keyset.as_slice(), &job, sink),
         Err(trouble) => Err(trouble),
     }
@@ -69,8 +70,7 @@ pub fn rewrap<'w, Y: System, K: Sink>(
     let Some(job) = job_of(line) else {
         return Err(Trouble::Usage);
     };
-    spare_keys(system, &job)?;
-    match keyset_of(alloc, system, job.keys) {
+    match keyset_for(alloc, system, &job) {
         Ok(keyset) => rewrap_from(alloc, system, &keyset, &job, sink),
         Err(trouble) => Err(trouble),
     }

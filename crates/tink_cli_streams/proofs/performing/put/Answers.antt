@@ -1,3 +1,4 @@
+use Rattle.tink_cli_streams.proofs.BreakingLemmas.{broken}
 use Rattle.tink_cli_streams.proofs.PerformingLemmas.{made_written}
 use Rattle.tink_cli_streams.proofs.performing.put.Goals as goal
 
@@ -5,3 +6,8 @@ pub returns-clause-done : goal.returns-clause-done
 returns-clause-done g c =
     made_written c.args.task c.args.keyset.now c.args.job.now.aad.now c.args.draws.now _ _ _ c.write_task-answer.result _ c.ended.result
     c.write_task-answer.ensures.ok c.ended.ensures.refused
+
+pub returns-clause-broken : goal.returns-clause-broken
+returns-clause-broken g c =
+    broken c.args.task c.args.keyset.now c.args.job.now.aad.now c.args.draws.now _ _ _ c.write_task-answer.result c.ended.result
+    c.write_task-answer.ensures.means c.ended.ensures.ok c.ended.ensures.refused

@@ -1,0 +1,3 @@
+pub mod LoadingLemmas
+pub mod OutputLemmas
+pub mod ProtectingLemmas

@@ -1,0 +1,11 @@
+use Rattle.std.specs.Prelude.{Some}
+use Rattle.tink_keyset_io.specs.Files.{wire_of}
+use Rattle.tink_cli_jobs.specs.Loading.{named, whole_of}
+use Rattle.tink_cli_jobs.proofs.LoadingLemmas.{fails_chained}
+use Rattle.tink_cli_jobs.proofs.keys.plain_keyset.Goals as goal
+
+pub returns-in-Err-clause-refused : goal.returns-in-Err-clause-refused
+returns-in-Err-clause-refused g c =
+    let s = g.Y.System.state c.args.system.now in
+    fails_chained s (g.Y.System.faults c.args.system.now) (g.Y.System.faults c.read_keys.new.system) wire_of (whole_of s (named (Some c.args.keys.now)))
+    c.in-Err.trouble c.in-Err.ensures.refused

@@ -1,0 +1,4 @@
+pub mod Jobs
+pub mod Loading
+pub mod Outputs
+pub mod Protecting

@@ -1,0 +1,100 @@
+//! The file that is written is none of the files of keys that are needed to read it.
+
+ghost use Rattle.std.specs.Prelude.{◌≡◌, ◌≤◌, true, IfErr, IfOk, OnOk, Some, option_map};
+ghost use Rattle.tink_cli_jobs.specs.Loading.{Fails, Gives, keyset_of};
+ghost use Rattle.tink_cli_jobs.specs.Protecting.{AreSparedBy, AreSparedOthers, Differ};
+ghost use Rattle.tink_system.specs.Statuses.{trouble_status};
+
+use crate::job::{Job, named};
+use crate::keys::keyset_of;
+use std::alloc::Global;
+use tink_proto::Bytes;
+use tink_system::{System, Trouble};
+
+/// The keyset of a job whose output is none of its files of keys.
+///
+/// # Errors
+/// Those of `spare_keys` and `keyset_of`.
+pub fn keyset_for<'w, Y: System>(
+    alloc: Global,
+    system: &mut Y,
+    job: &Job<'w>,
+) -> Result<Bytes, Trouble<'w>>
+    ensures loaded { IfOk result (λ keyset. Gives (Y.state system.old) (keyset_of (Y.state system.old) job.now.keys) keyset) }
+    ensures spared { OnOk result ((Y.state system.old).is_known ≡ true → AreSparedBy (Y.state system.old) job.now) }
+    ensures state { Y.state system.new ≡ Y.state system.old }
+    ensures later { Y.faults system.old ≤ Y.faults system.new }
+{
+    match spare_keys(system, job) {
+        Ok(()) => keyset_of(alloc, system, job.keys),
+        Err(trouble) => Err(trouble),
+    }
+}
+
+/// Refuses a job whose output is its file of keys, its master or its new file of keys.
+///
+/// # Errors
+/// Status 12.
+pub fn spare_keys<'w, Y: System>(system: &mut Y, job: &Job<'w>) -> Result<(), Trouble<'w>>
+    ensures spared { OnOk result ((Y.state system.old).is_known ≡ true → AreSparedBy (Y.state system.old) job.now) }
+    ensures refused { IfErr result (λ t. trouble_status t ≡ 12) }
+    ensures still { system.new ≡ system.old }
+{
+    match spare_file(system, job.output, named(Some(job.keys.keys))) {
+        Ok(()) => spare_others(system, job),
+        Err(trouble) => Err(trouble),
+    }
+}
+
+// Refuses one whose output is its master or its new file of keys.
+fn spare_others<'w, Y: System>(system: &mut Y, job: &Job<'w>) -> Result<(), Trouble<'w>>
+    ensures spared { OnOk result ((Y.state system.old).is_known ≡ true → AreSparedOthers (Y.state system.old) job.now) }
+    ensures refused { IfErr result (λ t. trouble_status t ≡ 12) }
+    ensures still { system.new ≡ system.old }
+{
+    match spare_file(system, job.output, named(job.keys.master)) {
+        Ok(()) => spare_file(system, job.output, named(job.new_file())),
+        Err(trouble) => Err(trouble),
+    }
+}
+
+/// Refuses an output that is this file.
+///
+/// # Errors
+/// Status 12.
+pub fn spare_file<'w, Y: System>(
+    system: &mut Y,
+    output: Option<&'w [u8]>,
+    file: Option<&'w [u8]>,
+) -> Result<(), Trouble<'w>>
+    ensures spared { OnOk result ((Y.state system.old).is_known ≡ true
+        → Differ (Y.state system.old) (option_map (λ n. n.now) output.entry) (option_map (λ n. n.now) file.entry)) }
+    ensures refused { IfErr result (λ t. trouble_status t ≡ 12) }
+    ensures still { system.new ≡ system.old }
+{
+    match output {
+        Some(output) => spare_named(system, output, file),
+        None => Ok(()),
+    }
+}
+
+// The same of an output that has a name.
+fn spare_named<'w, Y: System>(
+    system: &mut Y,
+    output: &'w [u8],
+    file: Option<&'w [u8]>,
+) -> Result<(), Trouble<'w>>
+    ensures spared { OnOk result ((Y.state system.old).is_known ≡ true
+        → Differ (Y.state system.old) (Some output.now) (option_map (λ n. n.now) file.entry)) }
+    ensures refused { IfErr result (λ t. trouble_status t ≡ 12) }
+    ensures still { system.new ≡ system.old }
+{
+    match file {
+        Some(file) if system.are_one(output, file) => Err(Trouble::Unusable(
+            output,
+            "it is a file of keys that this command reads: give another name for the output",
+            12,
+        )),
+        _ => Ok(()),
+    }
+}

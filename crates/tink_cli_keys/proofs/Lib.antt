@@ -1,0 +1,3 @@
+pub mod KeyFileLemmas
+pub mod SavingLemmas
+pub mod WrappingLemmas

@@ -1,0 +1,15 @@
+use Rattle.tink_cli_keys.proofs.SavingLemmas.{saved_file, saved_fresh, unsaved_kept}
+use Rattle.tink_cli_keys.proofs.saving.save_in.Goals as goal
+
+pub returns-in-Ok-clause-done : goal.returns-in-Ok-clause-done
+returns-in-Ok-clause-done g c = λ given answers.
+    saved_file given c.save_answer-answer.result _ _ _ _ _ _ _ _ c.saved.result (c.save_answer-answer.ensures.saves given answers) c.saved.ensures.refused
+    c.in-Ok.ensures.settled.file
+
+pub returns-in-Ok-clause-fresh : goal.returns-in-Ok-clause-fresh
+returns-in-Ok-clause-fresh g c = λ given answers.
+    saved_fresh given c.save_answer-answer.result _ _ _ _ _ _ _ c.saved.result (c.save_answer-answer.ensures.saves given answers) c.saved.ensures.refused
+
+pub returns-in-Ok-clause-kept : goal.returns-in-Ok-clause-kept
+returns-in-Ok-clause-kept g c =
+    unsaved_kept c.args.made c.save_answer-answer.result _ _ _ _ _ _ c.saved.result _ _ c.save_answer-answer.ensures.saves c.saved.ensures.ok c.in-Ok.ensures.kept

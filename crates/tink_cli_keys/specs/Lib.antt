@@ -1,0 +1,3 @@
+pub mod KeyFiles
+pub mod Saving
+pub mod Wrapping

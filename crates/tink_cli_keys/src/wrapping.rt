@@ -1,0 +1,203 @@
+//! The commands that keep a file of keys under a master keyset.
+
+ghost use Rattle.std.specs.Prelude.{◌≡◌, ◌≤◌, true, IfOk, IfSome, OnErr, OnOk};
+ghost use Rattle.tink_cli_keys.specs.Wrapping.{AreSparedWords, AreWords, IsUnwrapped, IsUnwrappedBy, IsWrapped, IsWrappedBy, IsWrappedKeys};
+ghost use Rattle.tink_cli_files.specs.Masters.{IsMaster, MasterKeys};
+ghost use Rattle.tink_cli_jobs.specs.Loading.{IsMasterOf};
+ghost use Rattle.tink_cli_jobs.specs.Outputs.{KeepsFiles};
+ghost use Rattle.tink_system.specs.States.{KeepsSystem};
+
+use crate::saving::save_new;
+use crate::words::format_of;
+use std::alloc::Global;
+use tink_cli_files::under_master::{Master, unwrapped, wrapped};
+use tink_cli_jobs::keys::{master_in, read_keys};
+use tink_cli_jobs::protecting::spare_file;
+use tink_cli_jobs::{DRAWN, data_of, named};
+use tink_cli_words::Line;
+use tink_io::{Draws, Sink};
+use tink_keyset_io::key_files::Format;
+use tink_system::{System, Trouble};
+
+// What the words say.
+#[derive(Clone, Copy)]
+struct Words<'w> {
+    master: &'w [u8],
+    input: &'w [u8],
+    output: &'w [u8],
+    aad: &'w [u8],
+    format: Format,
+}
+
+fn words_of<'w>(line: &Line<'w>) -> Option<Words<'w>>
+    ensures { IfSome result (AreWords line.now) }
+{
+    let (Some(master), Some(output), Some(input)) = (line.keys(), line.output(), line.first())
+    else {
+        return None;
+    };
+    Some(Words {
+        master,
+        input,
+        output,
+        aad: data_of(line.aad()),
+        format: format_of(line),
+    })
+}
+
+/// `wrap`: a new file has the keyset of a file of keys, encrypted by the primary key of a master.
+///
+/// # Errors
+/// 11, 13, 14 and 30 if a file cannot be read or is no file of keys; 15 to 18 if the master does not load as AEADs; 34 if the
+/// master refuses; 35 if the system gives no random bytes; 12 if the output is the master, a file has its name, or it cannot
+/// be written; 10. No file is changed then.
+pub fn wrap<'w, Y: System, K: Sink>(
+    alloc: Global,
+    system: &mut Y,
+    line: &Line<'w>,
+    sink: &mut K,
+) -> Result<(), Trouble<'w>>
+    ensures done { OnOk result ((Y.state system.old).is_known ≡ true → IsWrapped line.now
+        (Y.state system.old) (Y.state system.new) (K.got sink.old) (K.got sink.new)) }
+    ensures kept { OnErr result ((Y.state system.old).is_known ≡ true → KeepsFiles (Y.state system.old) (Y.state system.new)) }
+    ensures system { KeepsSystem (Y.state system.old) (Y.state system.new) }
+    ensures later { Y.faults system.old ≤ Y.faults system.new }
+    ensures sink { K.same sink.old sink.new }
+{
+    let Some(words) = words_of(line) else {
+        return Err(Trouble::Usage);
+    };
+    match master_for(alloc, system, words) {
+        Ok(master) => wrap_under(alloc, system, words, &master, sink),
+        Err(trouble) => Err(trouble),
+    }
+}
+
+// Under a master that is loaded.
+fn wrap_under<'w, Y: System, K: Sink>(
+    alloc: Global,
+    system: &mut Y,
+    words: Words<'w>,
+    master: &Master,
+    sink: &mut K,
+) -> Result<(), Trouble<'w>>
+    ensures done { OnOk result ((Y.state system.old).is_known ≡ true → (m : MasterKeys) → IsMaster m master.now
+        → IsWrappedBy m words.entry (Y.state system.old) (Y.state system.new) (K.got sink.old) (K.got sink.new)) }
+    ensures kept { OnErr result ((Y.state system.old).is_known ≡ true → KeepsFiles (Y.state system.old) (Y.state system.new)) }
+    ensures system { KeepsSystem (Y.state system.old) (Y.state system.new) }
+    ensures later { Y.faults system.old ≤ Y.faults system.new }
+    ensures sink { K.same sink.old sink.new }
+{
+    match read_keys(alloc, system, words.input) {
+        Ok(keys) => wrap_keys(alloc, system, words, master, keys, sink),
+        Err(trouble) => Err(trouble),
+    }
+}
+
+// Of a file of keys that is read.
+fn wrap_keys<'w, Y: System, K: Sink>(
+    alloc: Global,
+    system: &mut Y,
+    words: Words<'w>,
+    master: &Master,
+    keys: Vec<u8>,
+    sink: &mut K,
+) -> Result<(), Trouble<'w>>
+    ensures done { OnOk result ((Y.state system.old).is_known ≡ true → (m : MasterKeys) → IsMaster m master.now
+        → IsWrappedKeys m keys.items words.entry (Y.state system.old) (Y.state system.new) (K.got sink.old) (K.got sink.new)) }
+    ensures kept { OnErr result ((Y.state system.old).is_known ≡ true → KeepsFiles (Y.state system.old) (Y.state system.new)) }
+    ensures system { KeepsSystem (Y.state system.old) (Y.state system.new) }
+    ensures later { Y.faults system.old ≤ Y.faults system.new }
+    ensures sink { K.same sink.old sink.new }
+{
+    match system.draws(alloc, DRAWN) {
+        Ok(mut draws) => {
+            let made = wrapped(alloc, master, keys, words.aad, words.format, &mut draws);
+            save_new(alloc, system, made, words.input, words.output, sink)
+        }
+        Err(trouble) => Err(trouble),
+    }
+}
+
+/// `unwrap`: a new file has the keyset that a master decrypts of a wrapped file.
+///
+/// # Errors
+/// 11, 13, 14 and 30 if a file cannot be read or is no wrapped file; 15 to 18 if the master does not load as AEADs; 34 if no
+/// key of the master decrypts it with these data; 12 if the output is the master or the wrapped file, a file has its name, or
+/// it cannot be written; 10. No file is changed then.
+pub fn unwrap<'w, Y: System, K: Sink>(
+    alloc: Global,
+    system: &mut Y,
+    line: &Line<'w>,
+    sink: &mut K,
+) -> Result<(), Trouble<'w>>
+    ensures done { OnOk result ((Y.state system.old).is_known ≡ true → IsUnwrapped line.now
+        (Y.state system.old) (Y.state system.new) (K.got sink.old) (K.got sink.new)) }
+    ensures kept { OnErr result ((Y.state system.old).is_known ≡ true → KeepsFiles (Y.state system.old) (Y.state system.new)) }
+    ensures system { KeepsSystem (Y.state system.old) (Y.state system.new) }
+    ensures random { (Y.state system.new).random ≡ (Y.state system.old).random }
+    ensures later { Y.faults system.old ≤ Y.faults system.new }
+    ensures sink { K.same sink.old sink.new }
+{
+    let Some(words) = words_of(line) else {
+        return Err(Trouble::Usage);
+    };
+    match master_for(alloc, system, words) {
+        Ok(master) => unwrap_under(alloc, system, words, &master, sink),
+        Err(trouble) => Err(trouble),
+    }
+}
+
+// Under a master that is loaded.
+fn unwrap_under<'w, Y: System, K: Sink>(
+    alloc: Global,
+    system: &mut Y,
+    words: Words<'w>,
+    master: &Master,
+    sink: &mut K,
+) -> Result<(), Trouble<'w>>
+    ensures done { OnOk result ((Y.state system.old).is_known ≡ true → (m : MasterKeys) → IsMaster m master.now
+        → IsUnwrappedBy m words.entry (Y.state system.old) (Y.state system.new) (K.got sink.old) (K.got sink.new)) }
+    ensures kept { OnErr result ((Y.state system.old).is_known ≡ true → KeepsFiles (Y.state system.old) (Y.state system.new)) }
+    ensures system { KeepsSystem (Y.state system.old) (Y.state system.new) }
+    ensures random { (Y.state system.new).random ≡ (Y.state system.old).random }
+    ensures later { Y.faults system.old ≤ Y.faults system.new }
+    ensures sink { K.same sink.old sink.new }
+{
+    match read_keys(alloc, system, words.input) {
+        Ok(file) => {
+            let made = unwrapped(alloc, master, &file, words.aad, words.format);
+            save_new(alloc, system, made, words.input, words.output, sink)
+        }
+        Err(trouble) => Err(trouble),
+    }
+}
+
+// The master of words whose output is neither the master nor the file that is read.
+fn master_for<'w, Y: System>(
+    alloc: Global,
+    system: &mut Y,
+    words: Words<'w>,
+) -> Result<Master, Trouble<'w>>
+    ensures loaded { IfOk result (λ master. IsMasterOf (Y.state system.old) words.entry.master.now master) }
+    ensures spared { OnOk result ((Y.state system.old).is_known ≡ true → AreSparedWords (Y.state system.old) words.entry) }
+    ensures state { Y.state system.new ≡ Y.state system.old }
+    ensures later { Y.faults system.old ≤ Y.faults system.new }
+{
+    match spare_words(system, words) {
+        Ok(()) => master_in(alloc, system, words.master),
+        Err(trouble) => Err(trouble),
+    }
+}
+
+// The output is neither the master nor the file that is read.
+fn spare_words<'w, Y: System>(system: &mut Y, words: Words<'w>) -> Result<(), Trouble<'w>>
+    ensures spared { OnOk result ((Y.state system.old).is_known ≡ true → AreSparedWords (Y.state system.old) words.entry) }
+    ensures still { system.new ≡ system.old }
+{
+    let output = named(Some(words.output));
+    match spare_file(system, output, named(Some(words.master))) {
+        Ok(()) => spare_file(system, output, named(Some(words.input))),
+        Err(trouble) => Err(trouble),
+    }
+}

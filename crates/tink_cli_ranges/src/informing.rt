@@ -1,0 +1,124 @@
+//! The command that says what is known of a stream without opening all of it.
+
+ghost use Rattle.std.specs.Prelude.{◌≡◌, ◌≤◌, ◌<◌};
+
+use crate::ranges::trouble_of;
+use std::alloc::{AllocError, Global};
+use std::marker::Brand;
+use std::sync::ledger::{Blank, Ledger};
+use tink_cli_jobs::keys::keyset_of;
+use tink_cli_jobs::{Job, WRITE_FAULT, job_of, put};
+use tink_cli_words::Line;
+use tink_io::{Kind, Sink};
+use tink_range::Steps;
+use tink_rewrap::info::{StreamInfo, stream_info};
+use tink_system::{System, Trouble};
+
+/// `info`: writes the id of the key that opens the stream of a file, its segments, and the bytes of its plaintext and of a whole
+/// segment, a line each. The first and the last segment are opened, and what is between them is not checked.
+///
+/// # Errors
+/// Those of `stream_info` of `tink_rewrap` and of `keyset_of`, 11 if the file cannot be read, and 12 if standard output
+/// fails, by their statuses; 10.
+pub fn info<'w, Y: System, K: Sink>(
+    alloc: Global,
+    system: &mut Y,
+    line: &Line<'w>,
+    sink: &mut K,
+) -> Result<(), Trouble<'w>>
+    ensures state { Y.state system.new ≡ Y.state system.old }
+    ensures later { Y.faults system.old ≤ Y.faults system.new }
+    ensures sink { K.same sink.old sink.new }
+{
+    let Some(job) = job_of(line) else {
+        return Err(Trouble::Usage);
+    };
+    match keyset_of(alloc, system, job.keys) {
+        Ok(keyset) => info_under(alloc, system, keyset.as_slice(), &job, sink),
+        Err(trouble) => Err(trouble),
+    }
+}
+
+// Under a keyset that is loaded.
+fn info_under<'w, Y: System, K: Sink>(
+    alloc: Global,
+    system: &mut Y,
+    keyset: &[u8],
+    job: &Job<'w>,
+    sink: &mut K,
+) -> Result<(), Trouble<'w>>
+    ensures state { Y.state system.new ≡ Y.state system.old }
+    ensures later { Y.faults system.old ≤ Y.faults system.new }
+    ensures sink { K.same sink.old sink.new }
+{
+    let Some(input) = job.input else {
+        return Err(Trouble::Unusable(
+            b"standard input",
+            "the size of a stream is known of a file: name one",
+            2,
+        ));
+    };
+    match system.open_at(input, 0, true) {
+        Ok(mut object) => info_of(alloc, system, keyset, job, &mut object, sink),
+        Err(trouble) => Err(trouble),
+    }
+}
+
+// Of an object that is open.
+fn info_of<'w, Y: System, K: Sink>(
+    alloc: Global,
+    system: &Y,
+    keyset: &[u8],
+    job: &Job<'w>,
+    object: &mut Y::Object,
+    sink: &mut K,
+) -> Result<(), Trouble<'w>>
+    ensures sink { K.same sink.old sink.new }
+{
+    counted::<Brand, Y, K>(alloc, system, keyset, job, object, sink, Blank::new(1))
+}
+
+// The same by a ledger of steps.
+fn counted<'w, L: Ledger, Y: System, K: Sink>(
+    alloc: Global,
+    system: &Y,
+    keyset: &[u8],
+    job: &Job<'w>,
+    object: &mut Y::Object,
+    sink: &mut K,
+    blank: Blank,
+) -> Result<(), Trouble<'w>>
+    requires name { blank.name ≡ L.name }
+    requires parts { blank.parts ≡ L.parts }
+    requires some { 0 < blank.parts }
+    ensures sink { K.same sink.old sink.new }
+{
+    let mut steps = Steps::<L>::new(blank);
+    match stream_info(alloc, keyset, job.aad, object, &mut steps) {
+        Ok(info) => put_info(alloc, info, sink),
+        Err(e) => Err(trouble_of(system, object, job, e.kind, WRITE_FAULT)),
+    }
+}
+
+// Writes the lines.
+fn put_info<K: Sink>(alloc: Global, info: StreamInfo, sink: &mut K) -> Result<(), Trouble<'static>>
+    ensures sink { K.same sink.old sink.new }
+{
+    match lines_of(alloc, info) {
+        Ok(lines) => put(sink, lines.as_bytes()),
+        Err(_) => Err(Trouble::Refused(b"standard output", Kind::OutOfMemory)),
+    }
+}
+
+// The lines.
+fn lines_of(alloc: Global, info: StreamInfo) -> Result<String, AllocError> {
+    let StreamInfo {
+        key_id,
+        segments,
+        plaintext_len,
+        segment_len,
+    } = info;
+    format!(in alloc;
+        "key {key_id}\nsegments {segments}\nsegment {segment_len} bytes\nplaintext {plaintext_len} bytes\n"
+    )
+}

@@ -1,0 +1,5 @@
+//! The commands over a part of a stream, by their words, over any system: a range of its text, and what is known of it.
+#![tactic(auto)]
+
+pub mod informing;
+pub mod ranges;

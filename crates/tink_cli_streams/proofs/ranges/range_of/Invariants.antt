@@ -1,4 +1,0 @@
-use Rattle.tink_cli_streams.proofs.ranges.range_of.Given as goal
-
-abbrev pub ghosts-counted : goal.ghosts-counted
-ghosts-counted a b = record { name = b.blank.name; parts = b.blank.parts }
