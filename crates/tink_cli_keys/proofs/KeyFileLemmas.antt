@@ -1,6 +1,6 @@
 -- Files of keys that were changed or made, by the words.
 use Rattle.std.proofs.Common.{◌≡◌, ℕ, List, [], true, ◌∙◌, sym, subst, ap}
-use Rattle.std.specs.Prelude.{Option, Some, None, Result, Ok, Err, OnOk, take}
+use Rattle.std.specs.Prelude.{Option, Some, Result, Ok, Err, OnOk, take}
 use Rattle.tink_cli_words.specs.LineRead.{LineRead}
 use Rattle.tink_io.specs.declared.error.Kind.{Kind}
 use Rattle.tink_keyset_io.specs.declared.key_files.formats.Format.{Format}

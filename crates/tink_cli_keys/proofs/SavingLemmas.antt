@@ -1,6 +1,6 @@
 -- What a call made, where it is saved.
-use Rattle.std.proofs.Common.{◌≡◌, ◌++◌, ℕ, List, [], Bool, true, false, inr, refl, sym, ◌∙◌, subst, ap}
-use Rattle.std.specs.Prelude.{Option, Some, None, Result, Ok, Err, IfErr, IfOk, IfSome, IsErrAnd, OnErr, OnOk}
+use Rattle.std.proofs.Common.{◌≡◌, ◌++◌, ℕ, List, [], Bool, true, false, inr, refl, ◌∙◌, subst, ap}
+use Rattle.std.specs.Prelude.{Option, Some, None, Result, Ok, Err, IfErr, IfSome, IsErrAnd, OnErr, OnOk}
 use Rattle.std.specs.Io.KnownBytes.{Appends}
 use Rattle.tink_io.specs.Told.{Answers}
 use Rattle.tink_io.specs.declared.error.Kind.{Kind}
@@ -54,15 +54,6 @@ saved_new given old begun new output name has_draft replaces has got before (Ok 
     (drafted (λ X b a. IsAppended given b a) (λ X. Unit {0}) true Fresh old begun new name has_draft replaces has before (Ok done) refl same draft others fresh
     (λ X had any. made had)) known [] tt)
 saved_new given old begun new output name has_draft replaces has got before (Err t) is same draft others fresh made = tt
-
--- written to standard output, since the name is a dash
-pub saved_out : (given : Result (List ℕ) Kind) (old new : SystemState) (output : List ℕ) (got got_after : Option (List ℕ)) (result : Result (Unit {0}) Trouble)
-    → named (Some output) ≡ None → new ≡ old → OnOk result ((before : List ℕ) → got ≡ Some before → IsAppended given before got_after)
-    → OnOk result (old.is_known ≡ true → IsSavedNew given old new output got got_after)
-saved_out given old new output got got_after (Ok done) is same made = λ known.
-    subst (λ (n : Option (List ℕ)). IsPut (λ b a. IsAppended given b a) true old new n got got_after) (sym is)
-    (made, λ name. ap (λ (s : SystemState). s.file name) same)
-saved_out given old new output got got_after (Err t) is same made = tt
 
 appended : (old new : Option (List ℕ)) (bytes before : List ℕ) → old ≡ Some before → Appends old new bytes → new ≡ Some (before ++ bytes)
 appended (Some xs) (Some ys) bytes before is more = ap (λ (zs : List ℕ). Some zs) more ∙ ap (λ (o : Option (List ℕ)). append_to o bytes) is

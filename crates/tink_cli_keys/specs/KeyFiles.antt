@@ -1,5 +1,5 @@
 -- What the commands on files of keys have done.
-use Rattle.std.specs.Prelude.{◌≡◌, ◌++◌, ℕ, List, [], Option, Some, None, Result, Ok, Bool, true, false, take, drop}
+use Rattle.std.specs.Prelude.{◌≡◌, ℕ, List, Option, Some, None, Result, Ok, Bool, true, false, take, drop}
 use Rattle.tink_cli_words.specs.LineRead.{LineRead}
 use Rattle.tink_cli_words.specs.declared.form.Action.{Action}
 use Rattle.tink_cli_words.specs.declared.form.Action.TheVariants as actions

@@ -1,6 +1,6 @@
 -- What a range gave, where it was put.
-use Rattle.std.proofs.Common.{◌≡◌, ℕ, List, [], Bool, true, false, refl, sym, ◌∙◌, subst, ap}
-use Rattle.std.specs.Prelude.{Option, Some, None, Result, Ok, Err, IfErr, IfOk, IfSome, IsErrAnd, IsSome, OnOk, option_map}
+use Rattle.std.proofs.Common.{◌≡◌, ℕ, List, Bool, true, sym, ◌∙◌, subst}
+use Rattle.std.specs.Prelude.{Option, Some, Result, Ok, Err, IfErr, IfOk, IfSome, IsErrAnd, IsSome, OnOk, option_map}
 use Rattle.tink_io.specs.declared.error.TinkError.{TinkError}
 use Rattle.tink_cli_files.specs.Streams.{IsShownWhole}
 use Rattle.tink_range.specs.ChunkReading.{Moments}

@@ -1,5 +1,5 @@
 -- What a range has done.
-use Rattle.std.specs.Prelude.{◌≡◌, ℕ, List, Option, Some, None, Ok, option_map}
+use Rattle.std.specs.Prelude.{◌≡◌, ℕ, List, Option, Some, Ok, option_map}
 use Rattle.tink_cli_words.specs.LineRead.{LineRead}
 use Rattle.stream_model.specs.Agree.{joined}
 use Rattle.stream_model.specs.Opening.{IsChosen, IsStream, OpeningKey}

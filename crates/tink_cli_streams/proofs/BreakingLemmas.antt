@@ -1,6 +1,6 @@
 -- What is on standard output after an error.
-use Rattle.std.proofs.Common.{◌≡◌, ◌⊎◌, inl, inr, ℕ, List, Bool, true, false, refl, sym, ◌∙◌, subst, ap}
-use Rattle.std.specs.Prelude.{Option, Some, None, Result, Ok, Err, IfErr, IsErrAnd, OnOk, option_map}
+use Rattle.std.proofs.Common.{◌≡◌, inl, inr, ℕ, List, Bool, true, false, refl, ◌∙◌, subst, ap}
+use Rattle.std.specs.Prelude.{Option, Some, Result, Ok, Err, IfErr, IsErrAnd, OnOk, option_map}
 use Rattle.tink_cli_words.specs.LineRead.{LineRead}
 use Rattle.tink_cli_words.specs.declared.form.Action.{Action}
 use Rattle.tink_io.specs.Outside.{Outside}
@@ -15,7 +15,7 @@ use Rattle.tink_cli_jobs.specs.Jobs.{IsJob}
 use Rattle.tink_cli_jobs.specs.Loading.{keyset_of}
 use Rattle.tink_cli_jobs.specs.Outputs.{KeepsFiles}
 use Rattle.tink_cli_jobs.specs.declared.job.Job.{Job}
-use Rattle.tink_cli_streams.specs.Breaking.{Breaks, BreaksOn, IsUnmade, IsUnperformed, MayBreak, drawn_by}
+use Rattle.tink_cli_streams.specs.Breaking.{Breaks, IsUnmade, IsUnperformed, MayBreak, drawn_by}
 use Rattle.tink_cli_streams.specs.Performing.{Spends, takes_random}
 use Rattle.tink_cli_streams.specs.Streams.{own_task}
 use Rattle.tink_cli_streams.proofs.PerformingLemmas.{content_earlier}

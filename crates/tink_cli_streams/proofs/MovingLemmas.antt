@@ -1,5 +1,5 @@
 -- What a command has done, by the words.
-use Rattle.std.proofs.Common.{◌≡◌, ℕ, List, true, refl, sym, ◌∙◌, subst, ap}
+use Rattle.std.proofs.Common.{◌≡◌, ℕ, List, true, refl, subst, ap}
 use Rattle.std.specs.Prelude.{Option, Some, None, Result, Ok, Err, OnOk, option_map}
 use Rattle.tink_cli_words.specs.LineRead.{LineRead}
 use Rattle.tink_cli_words.specs.declared.form.Action.{Action}

@@ -1,5 +1,4 @@
-use Rattle.std.proofs.Common.{ap, sym}
-use Rattle.tink_cli_keys.proofs.SavingLemmas.{saved_new, saved_out}
+use Rattle.tink_cli_keys.proofs.SavingLemmas.{saved_new}
 use Rattle.tink_cli_keys.proofs.saving.save_new.Goals as goal
 
 pub returns-in-Ok-clause-done : goal.returns-in-Ok-clause-done
