@@ -17,8 +17,8 @@ use tink_proto::Bytes;
 /// The ciphertext by the primary key of a file of AEADs.
 ///
 /// # Errors
-/// Those of `aeads_in_file`; then `TextTooLong` or `DataTooLong` if the cipher does not take so many
-/// bytes, and `RandomFault` if fewer random bytes were handed in than the nonce has.
+/// Those of `aeads_in_file`; then `TextTooLong` or `DataTooLong` if there are more bytes than
+/// the cipher takes, and `RandomFault` if fewer random bytes were handed in than the nonce has.
 pub fn aead_encrypt(
     alloc: Global,
     file: &[u8],
@@ -69,7 +69,7 @@ pub fn encrypt(
 /// The ciphertext by the primary key of a file of deterministic AEADs.
 ///
 /// # Errors
-/// Those of `daeads_in_file`; then `TextTooLong` if the cipher does not take so many bytes.
+/// Those of `daeads_in_file`; then `TextTooLong` if there are more bytes than the cipher takes.
 pub fn daead_encrypt(
     alloc: Global,
     file: &[u8],

@@ -20,7 +20,7 @@ use tink_prf::{PrfKind, Set};
 /// The AEADs of the valid keyset of a file as one.
 ///
 /// # Errors
-/// `BadJson`, `BadKeyset` or `InvalidKeyset` if the file is no valid keyset; `InvalidKey` or `UnsupportedKeyType` for the
+/// `BadJson`, `BadKeyset` or `InvalidKeyset` if the file is no valid keyset. `InvalidKey` or `UnsupportedKeyType` for the
 /// first enabled key that does not build; `NoPrimary`; `WrongPrimitive` if an enabled key is for another use.
 pub fn aeads_in_file(alloc: Global, file: &[u8]) -> Result<WrappedAead<AeadKind>, TinkError>
     ensures { GivesKeys IsAead result (aeads_of file.now) }

@@ -22,8 +22,8 @@ use tink_run::run::run;
 /// The stream of the input under the primary key of a file, or the text of the stream that the input is.
 ///
 /// # Errors
-/// `BadJson` if the file is JSON by its first byte and no keyset; then those of `run` of `tink_run`, of which
-/// `WriteFault` does not come.
+/// `BadJson` if the file is JSON by its first byte and no keyset; then those of `run` of `tink_run`, without
+/// `WriteFault`.
 pub fn run_whole(
     alloc: Global,
     command: Command,
@@ -49,8 +49,8 @@ pub fn run_whole(
 /// The stream that the text of the input has under the primary key of another file.
 ///
 /// # Errors
-/// `BadJson` if a file is JSON by its first byte and no keyset; then those of `rewrap` of `tink_rewrap`, of which
-/// `WriteFault` does not come.
+/// `BadJson` if a file is JSON by its first byte and no keyset; then those of `rewrap` of `tink_rewrap`, without
+/// `WriteFault`.
 pub fn moved(
     alloc: Global,
     file: &[u8],
@@ -79,8 +79,8 @@ pub fn moved(
 /// A range of the text of the stream that the input is.
 ///
 /// # Errors
-/// `BadJson` if the file is JSON by its first byte and no keyset; then those of `run_range` of `tink_rewrap`, of
-/// which `WriteFault` does not come.
+/// `BadJson` if the file is JSON by its first byte and no keyset; then those of `run_range` of `tink_rewrap`,
+/// without `WriteFault`.
 pub fn range(
     alloc: Global,
     file: &[u8],

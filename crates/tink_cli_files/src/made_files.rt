@@ -85,8 +85,8 @@ pub fn added_file(
 /// The keyset of a file as a file of this format.
 ///
 /// # Errors
-/// The first that applies: those of `wire_bytes`; `BadKeyset` exactly if the file is not JSON by its first byte, and spells no
-/// keyset; `InvalidKeyset` exactly if the keyset is not valid; those of `as_file`. `OutOfMemory` may come in place of each.
+/// The first that applies: those of `wire_bytes`. `BadKeyset` exactly if the file is not JSON by its first byte, and spells no
+/// keyset. `InvalidKeyset` exactly if the keyset is not valid; those of `as_file`. `OutOfMemory` may come in place of each.
 pub fn converted_file(alloc: Global, file: Vec<u8>, format: Format) -> Result<Bytes, TinkError>
     ensures { Answers result (converted_file file.items format) }
 {

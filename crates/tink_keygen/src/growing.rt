@@ -22,8 +22,8 @@ use tink_registry::Registry;
 /// and not the primary one: it decrypts, and encrypts once it is promoted. The random bytes are taken as `rotate` takes them.
 ///
 /// # Errors
-/// Those of `rotate`; after `InvalidKeyset` `NoPrimary` exactly if no enabled key is the primary one: a valid keyset without one
-/// has public keys alone, and with a new key it would not be valid.
+/// Those of `rotate`; after `InvalidKeyset` `NoPrimary` exactly if no enabled key is the primary one. A valid keyset without
+/// one has public keys alone, and with a new key it would not be valid.
 pub fn add(
     alloc: Global,
     keyset: &[u8],

@@ -40,8 +40,8 @@ struct Link {
 }
 
 impl MemSystem {
-    /// A system without files and links. Standard input and the random bytes to come are given, and a draft has room for so
-    /// many bytes.
+    /// A system without files and links. Standard input and the random bytes to come are given, and a draft has room for
+    /// `room` bytes.
     pub fn new(alloc: Global, input: Vec<u8>, random: Vec<u8>, room: usize) -> MemSystem
         ensures { state_of result ≡ beginning input.items random.items }
     {

@@ -58,10 +58,10 @@ pub fn wrapped(
 /// made the encrypted file.
 ///
 /// # Errors
-/// `BadJson` exactly where the file is JSON by its first byte, and spells no encrypted keyset; `BadKeyset` exactly
-/// where it is none, and spells no encrypted keyset; then `MasterFailed` exactly where no key of the master decrypts
-/// it with this data; then `BadKeyset` and `InvalidKeyset` exactly where what is decrypted is no keyset that a handle
-/// may hold; then `KeysetTooLong` exactly if the file has no room. `OutOfMemory` may come in place of each.
+/// `BadJson` exactly if the file is JSON by its first byte, and spells no encrypted keyset. `BadKeyset` exactly if it
+/// is not JSON, and spells no encrypted keyset. Then `MasterFailed` exactly if no key of the master decrypts it with
+/// this data. Then `BadKeyset` and `InvalidKeyset` exactly if the decrypted bytes are no keyset that a handle may
+/// hold. Then `KeysetTooLong` exactly if the file has no room. `OutOfMemory` may come in place of each.
 pub fn unwrapped(
     alloc: Global,
     master: &Master,

@@ -32,8 +32,8 @@ pub enum Edit {
 /// or to enable a key may repair a keyset that is not valid; for the other edits it has to be valid before.
 ///
 /// # Errors
-/// The first that applies: `BadKeyset` exactly if the bytes spell none; `InvalidKeyset` exactly if no handle may hold it, and
-/// for the other edits if it is not valid; those of the command of `Manager`; `InvalidKeyset` exactly if the edited keyset is
+/// The first that applies: `BadKeyset` exactly if the bytes spell none. `InvalidKeyset` exactly if no handle may hold it, and
+/// for the other edits if it is not valid. Those of the command of `Manager`; `InvalidKeyset` exactly if the edited keyset is
 /// not valid. `OutOfMemory` may come in place of each.
 pub fn edited(alloc: Global, keyset: &[u8], edit: Edit, id: u32) -> Result<Keyset, TinkError>
     ensures answer { Answers result (edited keyset.now edit id) }
