@@ -58,12 +58,9 @@ deb:
 	install -m 644 share/debian/control out/deb/DEBIAN/control
 	dpkg-deb --root-owner-group --build out/deb out/$(DEB)
 
+# The gate: every proof, and then the tests of the built program and of the documents.
 check:
-	rt ci
-	tests/files
-	tests/refused-memory
-	tests/share
-	tests/prose
+	.ci/run
 
 check-fleet:
 	tests/fleet
