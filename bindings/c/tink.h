@@ -1,4 +1,4 @@
-/* Keysets, AEADs, MACs, PRFs and tokens of Tink, by a proved library. Link with libtink.
+/* Keysets, AEADs, MACs, PRFs, tokens and streams of Tink, by a proved library. Link with libtink.
  *
  * Every call answers a status. Status 0 (TINK_OK) says that the call did exactly what its line here says.
  *
@@ -43,6 +43,11 @@ enum {
   TINK_INVALID_KEY = 16,
   TINK_NO_PRIMARY = 17,
   TINK_WRONG_PRIMITIVE = 18,
+  TINK_UNSUPPORTED_HASH = 19,
+  TINK_TOO_MANY_SEGMENTS = 20,
+  TINK_NO_MATCHING_KEY = 21,
+  TINK_BAD_SEGMENT = 22,
+  TINK_TRUNCATED = 23,
   TINK_UNKNOWN_TEMPLATE = 24,
   TINK_NO_FRESH_ID = 25,
   TINK_BAD_TOKEN = 27,
@@ -64,7 +69,8 @@ enum {
 /* How many random bytes are enough. */
 enum {
   TINK_RANDOM_KEY = 576,    /* create, rotate, add */
-  TINK_RANDOM_ENCRYPT = 16  /* encrypt, wrap */
+  TINK_RANDOM_ENCRYPT = 16, /* encrypt, wrap */
+  TINK_RANDOM_STREAM = 39   /* seal, rewrap */
 };
 
 /* ---- keysets */
@@ -167,6 +173,34 @@ tink_status tink_sign_token(const uint8_t *keyset, size_t keyset_len,
 tink_status tink_verify_token(const uint8_t *keyset, size_t keyset_len,
                               const uint8_t *token, size_t token_len,
                               uint8_t *out, size_t out_room, size_t *written);
+
+/* ---- streams that are held whole */
+
+tink_status tink_seal_stream(const uint8_t *keyset, size_t keyset_len,
+                             const uint8_t *plaintext, size_t plaintext_len,
+                             const uint8_t *associated_data, size_t associated_data_len,
+                             const uint8_t *random, size_t random_len,
+                             uint8_t *out, size_t out_room, size_t *written);
+tink_status tink_open_stream(const uint8_t *keyset, size_t keyset_len,
+                             const uint8_t *stream, size_t stream_len,
+                             const uint8_t *associated_data, size_t associated_data_len,
+                             uint8_t *out, size_t out_room, size_t *written);
+
+/* The bytes of the plaintext from place `start` on, at most `length` of them. */
+tink_status tink_read_range(const uint8_t *keyset, size_t keyset_len,
+                            const uint8_t *stream, size_t stream_len,
+                            const uint8_t *associated_data, size_t associated_data_len,
+                            uint64_t start, uint64_t length,
+                            uint8_t *out, size_t out_room, size_t *written);
+
+/* The stream of the same plaintext under the primary key of the keyset `to_keyset`. */
+tink_status tink_rewrap_stream(const uint8_t *keyset, size_t keyset_len,
+                               const uint8_t *associated_data, size_t associated_data_len,
+                               const uint8_t *to_keyset, size_t to_keyset_len,
+                               const uint8_t *to_associated_data, size_t to_associated_data_len,
+                               const uint8_t *stream, size_t stream_len,
+                               const uint8_t *random, size_t random_len,
+                               uint8_t *out, size_t out_room, size_t *written);
 
 #ifdef __cplusplus
 }

@@ -1,4 +1,4 @@
-// Package tinkproved has Tink's keysets, AEADs, MACs, PRFs and tokens by a proved library with C names.
+// Package tinkproved has Tink's keysets, AEADs, MACs, PRFs, tokens and streams by a proved library with C names.
 //
 // It links with libtink: give cgo its folders, as CGO_CFLAGS=-I/usr/local/include CGO_LDFLAGS="-L/usr/local/lib -Wl,-rpath,/usr/local/lib".
 package tinkproved
@@ -26,6 +26,11 @@ const (
 	InvalidKey         Status = 16
 	NoPrimary          Status = 17
 	WrongPrimitive     Status = 18
+	UnsupportedHash    Status = 19
+	TooManySegments    Status = 20
+	NoMatchingKey      Status = 21
+	BadSegment         Status = 22
+	Truncated          Status = 23
 	UnknownTemplate    Status = 24
 	NoFreshID          Status = 25
 	BadToken           Status = 27
@@ -52,6 +57,11 @@ var texts = map[Status]string{
 	InvalidKey:         "the keyset has a key with a value that is none of its type",
 	NoPrimary:          "no enabled key is the primary key: promote one",
 	WrongPrimitive:     "the keyset has a key for another use",
+	UnsupportedHash:    "the primary key derives by a hash that no stream takes",
+	TooManySegments:    "the stream has more than 2^32 segments",
+	NoMatchingKey:      "no key opens this stream: other keys, other associated data or a damaged beginning",
+	BadSegment:         "a segment of the stream was changed",
+	Truncated:          "the stream was cut off",
 	UnknownTemplate:    "no template has this name",
 	NoFreshID:          "no unused key id was drawn: try again",
 	BadToken:           "it is no token",
@@ -82,6 +92,7 @@ func (s Status) Error() string {
 const (
 	randomKey     = 576
 	randomEncrypt = 16
+	randomStream  = 39
 )
 
 func random(count int) ([]byte, error) {

@@ -4,6 +4,7 @@ import (
 	"bufio"
 	"bytes"
 	"encoding/hex"
+	"io"
 	"os"
 	"strings"
 	"sync"
@@ -81,12 +82,16 @@ func TestVectors(t *testing.T) {
 		case "token":
 			equal(t, bytesOf(SignToken(d[0], d[2])), d[1])
 			equal(t, bytesOf(VerifyToken(d[0], d[1])), d[2])
+		case "stream":
+			equal(t, bytesOf(OpenStream(d[0], d[2], d[1])), d[3])
+			part := io.NewSectionReader(NewRangeReader(d[0], d[2], d[1]), 1, 1<<40)
+			equal(t, bytesOf(io.ReadAll(part)), d[3][1:])
 		default:
 			continue
 		}
 		checked++
 	}
-	if checked < 5 {
+	if checked < 8 {
 		t.Fatalf("%d vectors", checked)
 	}
 }
@@ -108,6 +113,21 @@ func TestRotation(t *testing.T) {
 	}
 	_, err = CreateKeyset("none")
 	refused(t, err, UnknownTemplate)
+}
+
+func TestStream(t *testing.T) {
+	keys := must[Keyset](t)(CreateKeyset("AES128_GCM_HKDF_4KB"))
+	text := bytes.Repeat([]byte("0123456789abcdef"), 1000)
+	stream := must[[]byte](t)(SealStream(keys, text, []byte("data")))
+	equal(t, must[[]byte](t)(OpenStream(keys, stream, []byte("data"))), text)
+	part := io.NewSectionReader(NewRangeReader(keys, stream, []byte("data")), 5000, 1<<40)
+	equal(t, must[[]byte](t)(io.ReadAll(part)), text[5000:])
+	if _, err := OpenStream(keys, stream[:4096], []byte("data")); err == nil {
+		t.Fatal("a cut stream was opened")
+	}
+	other := must[Keyset](t)(CreateKeyset("AES256_GCM_HKDF_4KB"))
+	moved := must[[]byte](t)(RewrapStream(keys, []byte("data"), other, []byte("new"), stream))
+	equal(t, must[[]byte](t)(OpenStream(other, moved, []byte("new"))), text)
 }
 
 func TestWrapping(t *testing.T) {

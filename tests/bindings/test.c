@@ -121,6 +121,28 @@ static void token(data k, data t, data p) {
   REFUSES(TINK_BAD_TOKEN, tink_verify_token, D(k), D(p));
 }
 
+static void stream(data k, data a, data s, data t) {
+  GIVES(t, tink_open_stream, D(k), D(s), D(a));
+  /* Cut in its first segment a stream opens under no key, and later a segment is wrong. */
+  REFUSES(TINK_NO_MATCHING_KEY, tink_open_stream, D(k), s.bytes, 1, D(a));
+  prepare();
+  tink_status cut = tink_open_stream(D(k), s.bytes, s.len - 1, D(a), out, ROOM, &written);
+  CHECK(cut == TINK_NO_MATCHING_KEY || cut == TINK_BAD_SEGMENT || cut == TINK_TRUNCATED);
+  CHECK(untouched() && written == 0);
+  data first = {t.bytes, 1};
+  GIVES(first, tink_read_range, D(k), D(s), D(a), 0, 1);
+  data none = {t.bytes, 0};
+  GIVES(none, tink_read_range, D(k), D(s), D(a), t.len, 10);
+}
+
+static void seal(data k, data t, data a, data r, data s) {
+  GIVES(s, tink_seal_stream, D(k), D(t), D(a), D(r));
+  GIVES(t, tink_open_stream, D(k), D(s), D(a));
+  GIVES(s, tink_rewrap_stream, D(k), D(a), D(k), D(a), D(s), D(r));
+  REFUSES(TINK_RANDOM_FAULT, tink_seal_stream, D(k), D(t), D(a), r.bytes, 3);
+  REFUSES(TINK_BAD_KEYSET, tink_seal_stream, k.bytes, k.len - 1, D(t), D(a), D(r));
+}
+
 /* A copy of the output. */
 static data kept(void) {
   data d = {malloc(written), written};
@@ -212,6 +234,8 @@ static void vectors(const char *path) {
     else if (!strcmp(kind, "mac")) mac(d[0], d[1], d[2]);
     else if (!strcmp(kind, "prf")) prf(d[0], d[1], d[2]);
     else if (!strcmp(kind, "token")) token(d[0], d[1], d[2]);
+    else if (!strcmp(kind, "stream")) stream(d[0], d[1], d[2], d[3]);
+    else if (!strcmp(kind, "seal")) seal(d[0], d[1], d[2], d[3], d[4]);
     else if (!strcmp(kind, "create")) create(d[0], d[1], d[2]);
     else fail(kind, __LINE__);
     while (n) free(d[--n].bytes);

@@ -1,4 +1,4 @@
-"""The Python package: the vectors, keysets, errors and buffers."""
+"""The Python package: the vectors, keysets, errors, buffers and streams."""
 
 import ctypes
 import os
@@ -27,7 +27,7 @@ class Vectors(unittest.TestCase):
         for kind, parts in vectors():
             seen.add(kind)
             getattr(self, kind)(*parts)
-        self.assertEqual(seen, {"aead", "daead", "mac", "prf", "token", "create"})
+        self.assertEqual(seen, {"aead", "daead", "mac", "prf", "token", "stream", "seal", "create"})
 
     def aead(self, keyset, plaintext, data, random, ciphertext):
         self.assertEqual(lib.output("tink_encrypt", 0, keyset, plaintext, data, random), ciphertext)
@@ -54,6 +54,16 @@ class Vectors(unittest.TestCase):
     def token(self, keyset, token, payload):
         self.assertEqual(tink_proved.sign_token(Keyset(keyset), payload), token)
         self.assertEqual(tink_proved.verify_token(Keyset(keyset), token), payload)
+
+    def stream(self, keyset, data, stream, text):
+        keys = Keyset(keyset)
+        self.assertEqual(tink_proved.open_stream(keys, stream, data), text)
+        reader = tink_proved.RangeReader(keys, stream, data)
+        reader.seek(1)
+        self.assertEqual(reader.read(), text[1:])
+
+    def seal(self, keyset, text, data, random, stream):
+        self.assertEqual(lib.output("tink_seal_stream", 0, keyset, text, data, random), stream)
 
     def create(self, template, random, keyset):
         self.assertEqual(lib.output("tink_keyset_create", 0, template, lib.boolean(False), random), keyset)
@@ -139,6 +149,21 @@ class Buffers(unittest.TestCase):
             text = file.read()
         for status in tink_proved.errors.BY_STATUS:
             self.assertIn(f" = {status}", text)
+
+
+class Streams(unittest.TestCase):
+    def test_whole(self):
+        keys = Keyset.create("AES128_GCM_HKDF_4KB")
+        text = bytes(range(256)) * 64
+        stream = tink_proved.seal_stream(keys, text, b"data")
+        self.assertEqual(tink_proved.open_stream(keys, stream, b"data"), text)
+        for cut in (0, 1, 4096, len(stream) - 1):
+            with self.assertRaises((tink_proved.NoMatchingKey, tink_proved.Truncated, tink_proved.BadSegment)):
+                tink_proved.open_stream(keys, stream[:cut], b"data")
+        self.assertEqual(tink_proved.read_range(keys, stream, b"data", 5000, 100), text[5000:5100])
+        other = Keyset.create("AES256_GCM_HKDF_4KB")
+        moved = tink_proved.rewrap_stream(keys, b"data", other, b"new", stream)
+        self.assertEqual(tink_proved.open_stream(other, moved, b"new"), text)
 
 
 if __name__ == "__main__":

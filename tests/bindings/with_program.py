@@ -8,7 +8,7 @@ from pathlib import Path
 
 sys.path.insert(0, str(Path(__file__).resolve().parents[2] / "bindings/python"))
 
-from tink_proved import Keyset, sign_token, verify_token  # noqa: E402
+from tink_proved import Keyset, open_stream, read_range, rewrap_stream, seal_stream, sign_token, verify_token  # noqa: E402
 
 PROGRAM = os.path.abspath(sys.argv[1])
 checks = 0
@@ -32,6 +32,21 @@ def read(name):
     return Path(name).read_bytes()
 
 
+def streams(text):
+    keys, other = Keyset.create("AES256_GCM_HKDF_4KB"), Keyset.create("AES128_CTR_HMAC_SHA256_4KB")
+    write("keys.json", bytes(keys)), write("other.json", bytes(other))
+
+    write("ours", seal_stream(keys, text, b"data"))
+    program("decrypt", "-k", "keys.json", "--aad", "data", "-o", "out1", "ours")
+    same(read("out1"), text)
+    program("encrypt", "-k", "keys.json", "--aad", "data", "-o", "theirs", "text")
+    same(open_stream(keys, read("theirs"), b"data"), text)
+    same(read_range(keys, read("theirs"), b"data", 5000, 300), text[5000:5300])
+    write("moved", rewrap_stream(keys, b"data", other, b"new", read("theirs")))
+    program("decrypt", "-k", "other.json", "--aad", "new", "-o", "out2", "moved")
+    same(read("out2"), text)
+
+
 def main():
     text = bytes(range(256)) * 100
     keys = Keyset.create("AES256_GCM_HKDF_4KB")
@@ -43,6 +58,7 @@ def main():
     write("keys.json", bytes(rotated.promote(keys.primary_id)))
     program("decrypt", "-k", "keys.json", "-o", "out1", "theirs")
     same(read("out1"), text)
+    streams(text)
     write("keys.json", bytes(keys))
 
     macs = Keyset.create("HMAC_SHA256_128BITTAG")

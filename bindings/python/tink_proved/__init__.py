@@ -1,9 +1,10 @@
-"""Tink's keysets, AEADs, MACs, PRFs and tokens by a proved library with C names (libtink)."""
+"""Tink's keysets, AEADs, MACs, PRFs, tokens and streams by a proved library with C names (libtink)."""
 
 from .errors import *  # noqa: F401,F403
 from .errors import TinkError
 from .keysets import Key, Keyset
 from .primitives import Aead, DeterministicAead, Mac, Prf, sign_token, verify_token
+from .streams import RangeReader, open_stream, read_range, rewrap_stream, seal_stream
 
 __all__ = [
     "Aead",
@@ -12,7 +13,12 @@ __all__ = [
     "Keyset",
     "Mac",
     "Prf",
+    "RangeReader",
     "TinkError",
+    "open_stream",
+    "read_range",
+    "rewrap_stream",
+    "seal_stream",
     "sign_token",
     "verify_token",
 ]

@@ -12,6 +12,7 @@ _TOO_LITTLE_ROOM = 42
 # Enough random bytes for each call that takes some.
 RANDOM_KEY = 576
 RANDOM_ENCRYPT = 16
+RANDOM_STREAM = 39
 
 
 def _load() -> ctypes.CDLL:
@@ -73,4 +74,5 @@ def output(name: str, room: int, *arguments: Any) -> bytes:
 
 boolean = ctypes.c_bool
 u32 = ctypes.c_uint32
+u64 = ctypes.c_uint64
 size = ctypes.c_size_t

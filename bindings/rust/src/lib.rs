@@ -1,4 +1,4 @@
-//! Tink's keysets, AEADs, deterministic AEADs, MACs, PRFs and tokens, by a proved library with C names (`libtink`).
+//! Tink's keysets, AEADs, deterministic AEADs, MACs, PRFs, tokens and streams, by a proved library with C names (`libtink`).
 //!
 //! ```no_run
 //! use tink_proved::{Aead, Keyset};
@@ -13,8 +13,10 @@
 mod error;
 mod keyset;
 mod primitives;
+mod streams;
 mod sys;
 
 pub use error::Error;
 pub use keyset::{Key, Keyset};
 pub use primitives::{Aead, DeterministicAead, Mac, Prf, sign_token, verify_token};
+pub use streams::{open_stream, read_range, rewrap_stream, seal_stream, RangeReader};

@@ -29,6 +29,10 @@ functions! {
     fn tink_keyset_list(k: In, kn: usize, o: Out, on: usize, w: Len);
     fn tink_keyset_wrap(m: In, mn: usize, k: In, kn: usize, a: In, an: usize, json: bool, r: In, rn: usize, o: Out, on: usize, w: Len);
     fn tink_keyset_unwrap(m: In, mn: usize, k: In, kn: usize, a: In, an: usize, json: bool, o: Out, on: usize, w: Len);
+    fn tink_seal_stream(k: In, kn: usize, p: In, pn: usize, a: In, an: usize, r: In, rn: usize, o: Out, on: usize, w: Len);
+    fn tink_open_stream(k: In, kn: usize, s: In, sn: usize, a: In, an: usize, o: Out, on: usize, w: Len);
+    fn tink_read_range(k: In, kn: usize, s: In, sn: usize, a: In, an: usize, start: u64, length: u64, o: Out, on: usize, w: Len);
+    fn tink_rewrap_stream(k: In, kn: usize, a: In, an: usize, t: In, tn: usize, ta: In, tan: usize, s: In, sn: usize, r: In, rn: usize, o: Out, on: usize, w: Len);
     fn tink_encrypt(k: In, kn: usize, p: In, pn: usize, a: In, an: usize, r: In, rn: usize, o: Out, on: usize, w: Len);
     fn tink_decrypt(k: In, kn: usize, c: In, cn: usize, a: In, an: usize, o: Out, on: usize, w: Len);
     fn tink_encrypt_deterministically(k: In, kn: usize, p: In, pn: usize, a: In, an: usize, o: Out, on: usize, w: Len);
@@ -43,6 +47,7 @@ functions! {
 /// Enough random bytes for each call that takes some.
 pub const RANDOM_KEY: usize = 576;
 pub const RANDOM_ENCRYPT: usize = 16;
+pub const RANDOM_STREAM: usize = 39;
 
 /// Fresh bytes of the system's random source.
 pub fn random(count: usize) -> Result<Vec<u8>, Error> {

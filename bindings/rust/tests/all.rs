@@ -1,8 +1,9 @@
-//! The vectors that each language checks, rotations, errors and threads.
+//! The vectors that each language checks, rotations, errors, streams and threads.
 
+use std::io::{Read, Seek, SeekFrom};
 use tink_proved::{
-    sign_token, verify_token, Aead, DeterministicAead,
-    Error, Keyset, Mac, Prf,
+    open_stream, read_range, rewrap_stream, seal_stream, sign_token, verify_token, Aead, DeterministicAead,
+    Error, Keyset, Mac, Prf, RangeReader,
 };
 
 fn from_hex(word: &str) -> Vec<u8> {
@@ -50,11 +51,20 @@ fn vectors() {
                 assert_eq!(sign_token(&keyset, &d[2]).unwrap(), d[1]);
                 assert_eq!(verify_token(&keyset, &d[1]).unwrap(), d[2]);
             }
+            "stream" => {
+                let keyset = Keyset::from(d[0].clone());
+                assert_eq!(open_stream(&keyset, &d[2], &d[1]).unwrap(), d[3]);
+                assert_eq!(read_range(&keyset, &d[2], &d[1], 1, 1 << 40).unwrap(), d[3][1..]);
+                let (mut reader, mut end) = (RangeReader::new(&keyset, &d[2], &d[1]), Vec::new());
+                reader.seek(SeekFrom::Start(1)).unwrap();
+                reader.read_to_end(&mut end).unwrap();
+                assert_eq!(end, d[3][1..]);
+            }
             _ => continue,
         }
         checked += 1;
     }
-    assert!(checked >= 5);
+    assert!(checked >= 8);
 }
 
 #[test]
@@ -81,6 +91,19 @@ fn a_wrapped_keyset() {
     let wrapped = keyset.wrap(&master, b"machine-1").unwrap();
     assert_eq!(Keyset::unwrap(&wrapped, &master, b"machine-1"), Ok(keyset));
     assert_eq!(Keyset::unwrap(&wrapped, &master, b"machine-2"), Err(Error::MasterFailed));
+}
+
+#[test]
+fn a_whole_stream() {
+    let keys = Keyset::create("AES128_GCM_HKDF_4KB").unwrap();
+    let text: Vec<u8> = (0..20000).map(|i| i as u8).collect();
+    let stream = seal_stream(&keys, &text, b"data").unwrap();
+    assert_eq!(open_stream(&keys, &stream, b"data").unwrap(), text);
+    assert_eq!(read_range(&keys, &stream, b"data", 5000, 10).unwrap(), text[5000..5010]);
+    assert!(open_stream(&keys, &stream[..4096], b"data").is_err());
+    let other = Keyset::create("AES256_GCM_HKDF_4KB").unwrap();
+    let moved = rewrap_stream((&keys, b"data"), (&other, b"new"), &stream).unwrap();
+    assert_eq!(open_stream(&other, &moved, b"new").unwrap(), text);
 }
 
 #[test]

@@ -6,3 +6,4 @@
 mod edits;
 mod keysets;
 mod primitives;
+mod streams;

@@ -1,0 +1,62 @@
+"""Streams that are held whole: sealed, opened, read by ranges, and moved to another keyset."""
+
+import io
+
+from . import _library as lib
+from .keysets import Keyset
+
+
+def seal_stream(keyset: Keyset, plaintext: bytes, associated_data: bytes = b"") -> bytes:
+    """The stream of a plaintext under the primary key. The program `tink decrypt` opens it."""
+    random = lib.random(lib.RANDOM_STREAM)
+    room = len(plaintext) + len(plaintext) // 64 + 1024
+    return lib.output("tink_seal_stream", room, bytes(keyset), plaintext, associated_data, random)
+
+
+def open_stream(keyset: Keyset, stream: bytes, associated_data: bytes = b"") -> bytes:
+    """The plaintext of a stream."""
+    return lib.output("tink_open_stream", len(stream), bytes(keyset), stream, associated_data)
+
+
+def read_range(keyset: Keyset, stream: bytes, associated_data: bytes, start: int, length: int) -> bytes:
+    """The bytes of the plaintext from the place `start` on, at most `length` of them."""
+    room = min(length, len(stream))
+    return lib.output("tink_read_range", room, bytes(keyset), stream, associated_data, lib.u64(start), lib.u64(length))
+
+
+def rewrap_stream(keyset: Keyset, associated_data: bytes, to: Keyset, to_associated_data: bytes, stream: bytes) -> bytes:
+    """The stream of the same plaintext under the primary key of the keyset `to`."""
+    random = lib.random(lib.RANDOM_STREAM)
+    room = len(stream) + len(stream) // 64 + 1024
+    return lib.output(
+        "tink_rewrap_stream", room, bytes(keyset), associated_data, bytes(to), to_associated_data, stream, random
+    )
+
+
+class RangeReader(io.RawIOBase):
+    """The plaintext of a stream as a file that is read at any place. Only the segments that are read are opened."""
+
+    def __init__(self, keyset: Keyset, stream: bytes, associated_data: bytes = b"") -> None:
+        self._keyset, self._stream, self._data, self._at = keyset, bytes(stream), associated_data, 0
+
+    def readable(self) -> bool:
+        return True
+
+    def seekable(self) -> bool:
+        return True
+
+    def tell(self) -> int:
+        return self._at
+
+    def seek(self, offset: int, whence: int = io.SEEK_SET) -> int:
+        """Moves to a place from the beginning or from here. The end is not known before it is read."""
+        if whence == io.SEEK_END:
+            raise io.UnsupportedOperation("the length of the plaintext is not known")
+        self._at = max(offset + (self._at if whence == io.SEEK_CUR else 0), 0)
+        return self._at
+
+    def readinto(self, buffer) -> int:  # type: ignore[no-untyped-def]
+        part = read_range(self._keyset, self._stream, self._data, self._at, len(buffer))
+        buffer[: len(part)] = part
+        self._at += len(part)
+        return len(part)
