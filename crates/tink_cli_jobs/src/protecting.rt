@@ -1,8 +1,8 @@
-//! The file that is written is none of the files of keys that are needed to read it.
+//! The file that is written is none of the files of keys that are needed to read it, and standard input is read for one thing.
 
-ghost use Rattle.std.specs.Prelude.{◌≡◌, ◌≤◌, true, IfErr, IfOk, OnOk, Some, option_map};
+ghost use Rattle.std.specs.Prelude.{◌≡◌, ◌≤◌, false, true, IfErr, IfOk, OnOk, Some, option_map};
 ghost use Rattle.tink_cli_jobs.specs.Loading.{Fails, Gives, keyset_of};
-ghost use Rattle.tink_cli_jobs.specs.Protecting.{AreSparedBy, AreSparedOthers, Differ};
+ghost use Rattle.tink_cli_jobs.specs.Protecting.{AreSparedBy, AreSparedOthers, Differ, are_two, is_input, reads_twice};
 ghost use Rattle.tink_system.specs.Statuses.{trouble_status};
 
 use crate::job::{Job, named};
@@ -11,11 +11,29 @@ use std::alloc::Global;
 use tink_proto::Bytes;
 use tink_system::{System, Trouble};
 
-/// The keyset of a job whose output is none of its files of keys.
+/// The keyset of a job whose output is none of its files of keys, and which reads standard input for one thing alone.
 ///
 /// # Errors
-/// Those of `spare_keys` and `keyset_of`.
+/// Those of `spare_input`, `spare_keys` and `keyset_of`.
 pub fn keyset_for<'w, Y: System>(
+    alloc: Global,
+    system: &mut Y,
+    job: &Job<'w>,
+) -> Result<Bytes, Trouble<'w>>
+    ensures loaded { IfOk result (λ keyset. Gives (Y.state system.old) (keyset_of (Y.state system.old) job.now.keys) keyset) }
+    ensures spared { OnOk result ((Y.state system.old).is_known ≡ true → AreSparedBy (Y.state system.old) job.now) }
+    ensures once { OnOk result (reads_twice job.now ≡ false) }
+    ensures state { Y.state system.new ≡ Y.state system.old }
+    ensures later { Y.faults system.old ≤ Y.faults system.new }
+{
+    match spare_input(job) {
+        Ok(()) => spared_keyset(alloc, system, job),
+        Err(trouble) => Err(trouble),
+    }
+}
+
+// The same, whatever is read from standard input.
+fn spared_keyset<'w, Y: System>(
     alloc: Global,
     system: &mut Y,
     job: &Job<'w>,
@@ -28,6 +46,58 @@ pub fn keyset_for<'w, Y: System>(
     match spare_keys(system, job) {
         Ok(()) => keyset_of(alloc, system, job.keys),
         Err(trouble) => Err(trouble),
+    }
+}
+
+/// Refuses a job that reads standard input for two things, for example for the keys and for a text.
+///
+/// # Errors
+/// Status 11.
+pub fn spare_input<'w>(job: &Job<'w>) -> Result<(), Trouble<'w>>
+    ensures once { OnOk result (reads_twice job.now ≡ false) }
+    ensures refused { IfErr result (λ t. trouble_status t ≡ 11) }
+{
+    let is_twice = reads_twice(job);
+    if is_twice {
+        return Err(Trouble::Unusable(
+            b"standard input",
+            "it has the keys and cannot have the input too: give a file for one of them",
+            11,
+        ));
+    }
+    Ok(())
+}
+
+// Whether two of the names of a job are standard input.
+fn reads_twice(job: &Job<'_>) -> bool
+    ensures { result ≡ reads_twice job.now }
+{
+    are_two(
+        job.input.is_none(),
+        is_input(Some(job.keys.keys)),
+        is_input(job.keys.master),
+        is_input(job.new_file()),
+    )
+}
+
+// Whether two of these hold.
+fn are_two(input: bool, keys: bool, master: bool, new_keys: bool) -> bool
+    ensures { result ≡ are_two input keys master new_keys }
+{
+    match (input, keys) {
+        (true, true) => true,
+        (false, false) => master && new_keys,
+        _ => master || new_keys,
+    }
+}
+
+// Whether a name is standard input.
+fn is_input(name: Option<&[u8]>) -> bool
+    ensures { result ≡ is_input (option_map (λ n. n.now) name.entry) }
+{
+    match name {
+        Some(name) => name == b"-".as_slice(),
+        None => false,
     }
 }
 

@@ -8,6 +8,7 @@ use crate::performing::ended;
 use std::alloc::Global;
 use tink_cli_files::{Task, write_task};
 use tink_cli_jobs::keys::keyset_of;
+use tink_cli_jobs::protecting::spare_input;
 use tink_cli_jobs::{Job, WRITE_FAULT, job_of};
 use tink_cli_words::Line;
 use tink_io::{Discard, Draws};
@@ -17,7 +18,7 @@ use tink_system::{System, Trouble};
 /// `check`: the whole input is opened under the keyset and the associated data that the words name, and nothing is written.
 ///
 /// # Errors
-/// Those of `decrypt`.
+/// Those of `decrypt`, and 11 if standard input is named for two things.
 pub fn check<'w, Y: System>(
     alloc: Global,
     system: &mut Y,
@@ -30,6 +31,9 @@ pub fn check<'w, Y: System>(
     let Some(job) = job_of(line) else {
         return Err(Trouble::Usage);
     };
+    if let Err(trouble) = spare_input(&job) {
+        return Err(trouble);
+    }
     match keyset_of(alloc, system, job.keys) {
         Ok(keyset) => check_under(alloc, system, keyset.as_slice(), &job),
         Err(trouble) => Err(trouble),
