@@ -167,11 +167,12 @@ def zsh_line(folder, line):
     while b"ready" not in shown:
         shown += os.read(terminal, 65536)
     os.write(terminal, line.encode() + b"\t\x18")
-    while not re.search(rb"made:[^']*\n", shown):
+    printed = re.compile(rb"made:([^'\r\n]*)\r*\n")
+    while not printed.search(shown):
         shown += os.read(terminal, 65536)
     os.close(terminal)
     os.waitpid(child, 0)
-    return re.findall(rb"made:([^'\r\n]*)\r?\n", shown)[-1].decode().replace("\\ ", " ").strip()
+    return printed.findall(shown)[-1].decode().replace("\\ ", " ").strip()
 
 
 def zsh():
