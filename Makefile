@@ -12,6 +12,7 @@ LIBRARIES = $(DESTDIR)$(PREFIX)/lib
 # The folder of the toolchain, which has the allocator of the library over that of C.
 KIT = $(shell dirname "$$(dirname "$$(readlink -f "$$(command -v rattle || command -v rt)")")")
 LIBC = $(KIT)/c/liblibc_c.a
+RT = rt
 VERSION = 0.3.0
 OUT = bindings/out
 
@@ -22,7 +23,7 @@ all:
 
 # The library for C, proved: libtink.a and libtink.so. Of libtink.so only names that begin with tink_ are visible.
 lib:
-	cd crates/tink_c && rt lib
+	cd crates/tink_c && $(RT) lib
 	mkdir -p $(OUT)
 	rm -f $(OUT)/libtink.a
 	printf '%s\n' 'create $(OUT)/libtink.a' 'addlib crates/tink_c/out/libtink_c.a' 'addlib $(LIBC)' save end | ar -M
