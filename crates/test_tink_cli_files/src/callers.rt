@@ -18,7 +18,6 @@ use test_util::{CTR_35, CTR_4096, GCM_41, Told, made, sink_of};
 use tink_io::{Draws, Kind, Sink, SureSink, SureSource, TinkError};
 use tink_keygen::{key_line, keygen};
 use tink_range::{MemAt, ReadAt, Steps};
-use tink_rewrap::info::{StreamInfo, stream_info};
 use tink_rewrap::ranges::run_range;
 use tink_rewrap::rewrap::rewrap;
 use tink_run::report::{Command, Report};
@@ -197,50 +196,10 @@ fn is_page(alloc: Global) -> Result<bool, TinkError> {
     }
 }
 
-// What is known of a sealed file, by a ledger of steps.
-fn info_by<L: Ledger>(
-    alloc: Global,
-    file: &mut MemAt,
-    blank: Blank,
-) -> Result<StreamInfo, TinkError>
-    requires name { blank.name ≡ L.name }
-    requires parts { blank.parts ≡ L.parts }
-    requires some { 0 < blank.parts }
-{
-    let mut steps = Steps::<L>::new(blank);
-    stream_info(alloc, CTR_35, &[], file, &mut steps)
-}
-
-// What is known of the first bytes of a sealed file.
-fn info_of(alloc: Global, count: usize) -> Result<StreamInfo, TinkError> {
-    let bytes = Vec::from_slice(alloc, SEALED.get(..count).unwrap_or(SEALED))?;
-    let mut file = MemAt::new(bytes, 0, Vec::new(alloc));
-    info_by::<Brand>(alloc, &mut file, Blank::new(1))
-}
-
-// Whether the key, the segments and the bytes of the whole file are told.
-fn is_info(alloc: Global) -> Result<bool, TinkError> {
-    match info_of(alloc, SEALED.len()) {
-        Ok(info) => Ok(
-            info.key_id == 0x0102_0304
-                && info.segments == 2
-                && info.plaintext_len == 20
-                && info.segment_len == 35,
-        ),
-        Err(e) => Err(e),
-    }
-}
-
 pub fn callers_do_what_they_say(alloc: Global, told: &mut Told) {
     told.expect(is_done(alloc, &Does::Seal, 56), Ok(true), "a seal");
     told.expect(is_done(alloc, &Does::Move, 41), Ok(true), "a move");
     told.expect(is_line(alloc), Ok(true), "the line of a new keyset");
     told.expect(made(no_payload(alloc)), Err(Kind::BadKeyset), "no payload");
     told.expect(is_page(alloc), Ok(true), "a page of a sealed file");
-    told.expect(is_info(alloc), Ok(true), "what is known of a sealed file");
-    told.expect(
-        made(info_of(alloc, SEALED.len() - 1)),
-        Err(Kind::BadSegment(1)),
-        "a sealed file that was cut",
-    );
 }
