@@ -285,6 +285,9 @@ class Clusters(Targets, ClusterYard):
         tink("new", "AES256_GCM", "-o", self.at("master"))
         tink("wrap", "-k", self.at("master"), "-o", self.at("wrapped"), self.at("keys"))
         texts = self.make_texts(20, 3000)
+        # A program that encrypts this one runs long enough to be seen.
+        texts["large"] = bytes(64 << 20)
+        write(self.at("plain/large"), texts["large"])
         sealed = self.manifest(
             "seal.toml", operation="encrypt", source="plain", target="sealed", keys="wrapped", master="master"
         )

@@ -242,7 +242,7 @@ class Watcher:
         self.thread = threading.Thread(target=self.work, daemon=True)
 
     def work(self) -> None:
-        while not self.is_ended.wait(0.05):
+        while not self.is_ended.wait(0.01):
             names = [f"/proc/{it}/cmdline" for it in filter(str.isdigit, os.listdir("/proc"))]
             names += [os.path.join(at, name) for at, _, found in os.walk(self.folder) for name in found]
             for name in names:
