@@ -1,7 +1,11 @@
 """The Python package: the vectors, keysets, errors, buffers and streams."""
 
 import ctypes
+import ctypes.util
+import json
 import os
+import pickle
+import subprocess
 import sys
 import threading
 import unittest
@@ -66,7 +70,7 @@ class Vectors(unittest.TestCase):
         self.assertEqual(lib.output("tink_seal_stream", 0, keyset, text, data, random), stream)
 
     def create(self, template, random, keyset):
-        self.assertEqual(lib.output("tink_keyset_create", 0, template, lib.boolean(False), random), keyset)
+        self.assertEqual(lib.output("tink_keyset_create", 0, template, False, random), keyset)
 
 
 class Keysets(unittest.TestCase):
@@ -87,6 +91,7 @@ class Keysets(unittest.TestCase):
         with self.assertRaises(tink_proved.WrongPrimitive):
             keyset.rotate("AES256_SIV")
         self.assertEqual(len(keyset.rotate("AES256_SIV", to_any=True).keys()), 3)
+        self.assertEqual([key["id"] for key in json.loads(keyset.keys_json())], [key.id for key in keyset.keys()])
 
     def test_formats(self):
         keyset = Keyset.create("AES256_GCM", json=True)
@@ -137,18 +142,71 @@ class Keysets(unittest.TestCase):
 class Buffers(unittest.TestCase):
     def test_an_error_leaves_the_buffer(self):
         keyset = bytes(Keyset.create("AES256_GCM"))
-        call = lib._call("tink_decrypt")
+        call = lib._lib.tink_decrypt
         out, written = ctypes.create_string_buffer(b"before", 64), ctypes.c_size_t(7)
-        passed = lib._arguments([keyset, b"no ciphertext", b""])
-        status = call(*passed, out, ctypes.c_size_t(64), ctypes.byref(written))
+        passed = lib._passed("tink_decrypt", [keyset, b"no ciphertext", b""])
+        status = call(*passed, out, 64, ctypes.byref(written))
         self.assertEqual((status, out.value, written.value), (tink_proved.DecryptFailed.status, b"before", 0))
 
-    def test_every_exception_has_its_status(self):
-        header = os.path.join(os.path.dirname(os.path.abspath(__file__)), "../../bindings/c/tink.h")
-        with open(header) as file:
-            text = file.read()
-        for status in tink_proved.errors.BY_STATUS:
-            self.assertIn(f" = {status}", text)
+    def test_exceptions(self):
+        self.assertEqual(len(tink_proved.errors.BY_STATUS), 28)
+        for status, made in tink_proved.errors.BY_STATUS.items():
+            error = tink_proved.errors.error_of(status)
+            self.assertIs(type(error), made)
+            self.assertIs(getattr(tink_proved, made.__name__), made)
+            self.assertEqual(str(pickle.loads(pickle.dumps(error))), made.text)
+        self.assertIn("status 99", str(tink_proved.errors.error_of(99)))
+
+
+class Misuse(unittest.TestCase):
+    """What the library's types do not have is refused before the call, since a wrong argument would break its memory."""
+
+    def setUp(self):
+        self.keyset = Keyset.create("AES256_GCM")
+        self.keys = Keyset.create("AES128_GCM_HKDF_4KB")
+
+    def test_no_bytes(self):
+        for value in ("text", None, 5, [1, 2]):
+            for call in (
+                lambda: Aead(self.keyset).encrypt(b"", value),
+                lambda: Aead(self.keyset).decrypt(b"", value),
+                lambda: tink_proved.seal_stream(self.keys, b"", value),
+                lambda: Keyset(value),
+            ):
+                self.assertRaises(TypeError, call)
+        self.assertRaises(TypeError, Aead(self.keyset).encrypt, "text")
+        sealed = Aead(self.keyset).encrypt(bytearray(b"text"), memoryview(b"data"))
+        self.assertEqual(Aead(self.keyset).decrypt(memoryview(sealed), b"data"), b"text")
+
+    def test_numbers(self):
+        stream = tink_proved.seal_stream(self.keys, bytes(20000))
+        for start, length in ((0, -1), (-1, 5), (1 << 64, 5), (0, 1 << 64)):
+            self.assertRaises(ValueError, tink_proved.read_range, self.keys, stream, b"", start, length)
+        self.assertEqual(tink_proved.read_range(self.keys, stream, b"", (1 << 64) - 1, (1 << 64) - 1), b"")
+        for key_id in (-1, self.keyset.primary_id + (1 << 32)):
+            self.assertRaises(ValueError, self.keyset.promote, key_id)
+        self.assertRaises(TypeError, self.keyset.promote, 1.5)
+        prf = Prf(Keyset.create("HKDF_SHA256"))
+        self.assertRaises(ValueError, prf.compute, b"", -1)
+        for length in (1 << 20, 1 << 45):
+            self.assertRaises(tink_proved.BadOutputLength, prf.compute, b"", length)
+
+    def test_places(self):
+        reader = tink_proved.RangeReader(self.keys, tink_proved.seal_stream(self.keys, b"0123456789"))
+        self.assertEqual((reader.seek(3), reader.seek(2, 1), reader.read(2), reader.read()), (3, 5, b"56", b"789"))
+        self.assertRaises(ValueError, reader.seek, -1)
+        self.assertRaises(OSError, reader.seek, 0, 2)
+        self.assertEqual((reader.seek(100), reader.read(5), reader.read()), (100, b"", b""))
+
+    def test_another_library(self):
+        for place, word in (("/no/libtink.so", "make install"), (ctypes.util.find_library("m"), "no tink_")):
+            environment = {**os.environ, "TINK_LIBRARY": place, "PYTHONPATH": os.pathsep.join(sys.path)}
+            answer = subprocess.run(
+                [sys.executable, "-c", "import tink_proved"], env=environment, stderr=subprocess.PIPE, text=True
+            )
+            self.assertNotEqual(answer.returncode, 0)
+            for part in ("ImportError", place, word, "TINK_LIBRARY"):
+                self.assertIn(part, answer.stderr)
 
 
 class Streams(unittest.TestCase):
