@@ -77,7 +77,7 @@ impl Seek for RangeReader<'_> {
     fn seek(&mut self, to: SeekFrom) -> io::Result<u64> {
         let place = match to {
             SeekFrom::Start(place) => Some(place),
-            SeekFrom::Current(by) => self.at.checked_add_signed(by),
+            SeekFrom::Current(by) => u64::try_from(i128::from(self.at) + i128::from(by)).ok(),
             SeekFrom::End(_) => None,
         };
         self.at = place.ok_or(io::Error::from(io::ErrorKind::InvalidInput))?;
