@@ -66,7 +66,8 @@ func RewrapStream(keyset Keyset, associatedData []byte, to Keyset, toAssociatedD
 
 func streamRoom(input []byte) int { return len(input) + len(input)/64 + 1024 }
 
-// RangeReader reads the plaintext of a stream in memory at any place. Only the segments that are read are opened.
+// RangeReader reads the plaintext of a stream in memory at any place. Each read opens
+// the first segment, the last one and those that it reads.
 type RangeReader struct {
 	part func(start, length uint64) ([]byte, error)
 }

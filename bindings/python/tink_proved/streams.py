@@ -35,7 +35,8 @@ def rewrap_stream(keyset: Keyset, associated_data: bytes, to: Keyset, to_associa
 
 
 class RangeReader(io.RawIOBase):
-    """The plaintext of a stream as a file that is read at any place. Only the segments that are read are opened."""
+    """The plaintext of a stream as a file that is read at any place. Each read opens the first
+    segment, the last one and those that it reads."""
 
     def __init__(self, keyset: Keyset, stream: bytes, associated_data: bytes = b"") -> None:
         self._keyset, self._stream, self._data, self._at = keyset, bytes(stream), associated_data, 0

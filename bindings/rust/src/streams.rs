@@ -49,7 +49,8 @@ fn room(len: usize) -> usize {
     len + len / 64 + 1024
 }
 
-/// The plaintext of a stream in memory, which is read at any place. Only the segments that are read are opened.
+/// The plaintext of a stream in memory, which is read at any place. Each read opens
+/// the first segment, the last one and those that it reads.
 pub struct RangeReader<'k> {
     keyset: &'k Keyset,
     stream: &'k [u8],
