@@ -148,6 +148,59 @@ class Buffers(unittest.TestCase):
         status = call(*passed, out, 64, ctypes.byref(written))
         self.assertEqual((status, out.value, written.value), (tink_proved.DecryptFailed.status, b"before", 0))
 
+    def refuses(self, error, name, *values):
+        """A call answers this status, writes 0 as the length, and leaves the buffer."""
+        before = bytes(range(256)) * 16
+        out, written = ctypes.create_string_buffer(before, len(before)), ctypes.c_size_t(7)
+        passed = lib._passed(name, values)
+        status = getattr(lib._lib, name)(*passed, out, len(before), ctypes.byref(written))
+        self.assertEqual((status, written.value), (error.status, 0), error)
+        self.assertEqual(bytes(out), before)
+        self.seen.add(error)
+
+    def test_every_error_leaves_the_buffer(self):
+        """Each error but those of memory, of room and of more than 2^32 bytes."""
+        t, self.seen = tink_proved, {tink_proved.OutOfMemory, tink_proved.TooLittleRoom}
+        gcm, mac = bytes(Keyset.create("AES128_GCM")), bytes(Keyset.create("HMAC_SHA256_128BITTAG"))
+        keys, prf = Keyset.create("AES128_GCM_HKDF_4KB"), bytes(Keyset.create("HKDF_SHA256"))
+        ciphertext, key = Aead(Keyset(gcm)).encrypt(b"text"), Keyset(gcm).primary_id
+        token, stream = tink_proved.sign_token(Keyset(mac), b"{}"), tink_proved.seal_stream(keys, bytes(9000))
+        changed = stream[:5000] + bytes([stream[5000] ^ 1]) + stream[5001:]
+        public = gcm.replace(b"SYMMETRIC", b"ASYMMETRIC_PUBLIC").replace(b'"primaryKeyId": %d' % key, b'"primaryKeyId": 0')
+        two = bytes(Keyset(gcm).rotate("AES128_GCM").disable(key))
+        with open(os.environ["TINK_VECTORS"]) as file:
+            ctr = next(line.split()[1] for line in file if line.startswith("stream "))
+        sha224 = bytes.fromhex(ctr.replace("10101803", "10101805"))
+        for error, name, *values in (
+            (t.BadKeyset, "tink_decrypt", b"\x0b", ciphertext, b""),
+            (t.BadJson, "tink_decrypt", b"{", ciphertext, b""),
+            (t.InvalidKeyset, "tink_decrypt", b"", ciphertext, b""),
+            (t.UnsupportedKeyType, "tink_decrypt", gcm.replace(b"AesGcmKey", b"AnotherKey"), ciphertext, b""),
+            (t.InvalidKey, "tink_decrypt", gcm.replace(b"AesGcmKey", b"HmacKey"), ciphertext, b""),
+            (t.NoPrimary, "tink_decrypt", public, ciphertext, b""),
+            (t.WrongPrimitive, "tink_decrypt", mac, ciphertext, b""),
+            (t.UnsupportedHash, "tink_seal_stream", sha224, b"text", b"", os.urandom(39)),
+            (t.NoMatchingKey, "tink_open_stream", bytes(keys), stream, b"another"),
+            (t.BadSegment, "tink_open_stream", bytes(keys), changed, b""),
+            (t.Truncated, "tink_open_stream", bytes(keys), stream[: 2 * 4096 + 5], b""),
+            (t.UnknownTemplate, "tink_keyset_create", b"none", True, os.urandom(576)),
+            (t.NoFreshId, "tink_keyset_create", b"AES128_GCM", True, bytes(576)),
+            (t.BadToken, "tink_verify_token", mac, b"{}"),
+            (t.MacMismatch, "tink_verify_token", bytes(Keyset.create("HMAC_SHA256_128BITTAG")), token),
+            (t.KeyNotFound, "tink_keyset_promote", gcm, key ^ 1),
+            (t.IsPrimary, "tink_keyset_delete", gcm, key),
+            (t.WrongKeyStatus, "tink_keyset_promote", two, key),
+            (t.MasterFailed, "tink_keyset_unwrap", gcm, Keyset(mac).wrap(Keyset(gcm)), b"another", True),
+            (t.RandomFault, "tink_encrypt", gcm, b"text", b"", bytes(11)),
+            (t.DecryptFailed, "tink_decrypt", gcm, ciphertext, b"another"),
+            (t.NotRaw, "tink_compute_prf", prf.replace(b"RAW", b"TINK"), b"", 16),
+            (t.BadOutputLength, "tink_compute_prf", prf, b"", 1 << 20),
+        ):
+            with self.subTest(name=name, error=error):
+                self.refuses(error, name, *values)
+        huge = {tink_proved.TooManySegments, tink_proved.TextTooLong, tink_proved.DataTooLong}
+        self.assertEqual(set(tink_proved.errors.BY_STATUS.values()) - self.seen, huge)
+
     def test_exceptions(self):
         self.assertEqual(len(tink_proved.errors.BY_STATUS), 28)
         for status, made in tink_proved.errors.BY_STATUS.items():
