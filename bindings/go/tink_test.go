@@ -88,12 +88,23 @@ func TestVectors(t *testing.T) {
 			equal(t, bytesOf(OpenStream(d[0], d[2], d[1])), d[3])
 			part := io.NewSectionReader(NewRangeReader(d[0], d[2], d[1]), 1, 1<<40)
 			equal(t, bytesOf(io.ReadAll(part)), d[3][1:])
+		case "seal": // the wrapper draws its random bytes itself: what was made by those of the vector is read
+			equal(t, bytesOf(OpenStream(d[0], d[4], d[2])), d[1])
+			moved := bytesOf(RewrapStream(d[0], d[2], d[0], []byte("new"), d[4]))
+			equal(t, bytesOf(OpenStream(d[0], moved, []byte("new"))), d[1])
+		case "create":
+			json := Keyset(bytesOf(Keyset(d[2]).JSON()))
+			equal(t, bytesOf(json.Binary()), d[2])
+			made := must[Keyset](t)(CreateKeyset(string(d[0])))
+			if got, want := must[[]Key](t)(json.Keys())[0].Type, must[[]Key](t)(made.Keys())[0].Type; got != want {
+				t.Fatal(got, want)
+			}
 		default:
-			continue
+			t.Fatal(words[0])
 		}
 		checked++
 	}
-	if checked < 8 {
+	if checked != 14 {
 		t.Fatalf("%d vectors", checked)
 	}
 }

@@ -21,7 +21,8 @@ TYPES = {
 }
 # A word of C++ in place of which C has another name.
 RENAMED = {"template": "template_name", "template_len": "template_len"}
-RUST = {"In": "const uint8_t *", "Out": "uint8_t *", "Len": "size_t *", "usize": "size_t", "u32": "uint32_t", "u64": "uint64_t", "bool": "bool"}
+RUST = {"In": "const uint8_t *", "Out": "uint8_t *", "Len": "size_t *", "bool": "bool"}
+RUST.update({"usize": "size_t", "u32": "uint32_t", "u64": "uint64_t"})
 PYTHON = {"in": ["const uint8_t *", "size_t"], "out": ["uint8_t *", "size_t", "size_t *"], "bool": ["bool"]}
 PYTHON.update({"u32": ["uint32_t"], "u64": ["uint64_t"], "size": ["size_t"]})
 
@@ -75,12 +76,17 @@ def numbers(text, prefix=""):
     return {name: int(number) for name, number in re.findall(prefix + r"TINK_(\w+) = (\d+)", text)}
 
 
+# The statuses of the program that no call of the library answers: words, ends and limits of the program alone.
+OF_THE_PROGRAM = {2, 11, 12, 26}
+
+
 def check_statuses(statuses):
     documented = re.findall(r"^\| ([\d, ]+) \| (.*?) \|", read("docs/STATUSES.md"), re.M)
     rows = {}
     for of, message in documented:
         for place, number in enumerate(of.split(", ")):
             rows.setdefault(int(number), []).append(message.split(", ")[min(place, message.count(", "))])
+    same("STATUSES.md", dict.fromkeys(set(rows) - OF_THE_PROGRAM, True), dict.fromkeys(statuses.values(), True))
     for name, number in statuses.items():
         words = name.lower().replace("_", " ").replace("wrong key status", "wrong status")
         if not any(f"`TINK_{name}`" in row or f"`{words}" in row for row in rows.get(number, [])) and name != "OK":
