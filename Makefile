@@ -48,7 +48,7 @@ install-lib:
 	install -d "$(INCLUDE)" "$(LIBRARIES)/pkgconfig"
 	install -m 644 bindings/c/tink.h "$(INCLUDE)/tink.h"
 	install -m 644 $(OUT)/libtink.a "$(LIBRARIES)/libtink.a"
-	install -m 644 $(OUT)/libtink.so "$(LIBRARIES)/libtink.so"
+	install -m 755 $(OUT)/libtink.so "$(LIBRARIES)/libtink.so"
 	sed -e 's|@PREFIX@|$(PREFIX)|' -e 's|@VERSION@|$(VERSION)|' bindings/c/tink.pc.in > "$(LIBRARIES)/pkgconfig/tink.pc"
 	$(LDCONFIG) || true
 

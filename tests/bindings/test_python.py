@@ -5,6 +5,8 @@ import ctypes.util
 import json
 import os
 import pickle
+import random
+import re
 import subprocess
 import sys
 import threading
@@ -260,6 +262,108 @@ class Misuse(unittest.TestCase):
             self.assertNotEqual(answer.returncode, 0)
             for part in ("ImportError", place, word, "TINK_LIBRARY"):
                 self.assertIn(part, answer.stderr)
+
+
+OF_A_KEYSET = {"TINK_BAD_KEYSET", "TINK_BAD_JSON", "TINK_INVALID_KEYSET"}
+OF_KEYS = OF_A_KEYSET | {"TINK_INVALID_KEY", "TINK_UNSUPPORTED_KEY_TYPE", "TINK_NO_PRIMARY", "TINK_WRONG_PRIMITIVE"}
+
+
+# What is replaced in a file of keys, and by what.
+WORDS = [(b"AesGcmKey", b"HmacKey"), (b"Key", b"Kez"), (b"ENABLED", b"DISABLED"), (b"TINK", b"RAW"), (b"RAW", b"TINK")]
+WORDS += [(b"SYMMETRIC", b"ASYMMETRIC_PUBLIC"), (b'Id": ', b'Id": 1'), (b'"value": "', b'"value": "AA')]
+
+
+class Statuses(unittest.TestCase):
+    """No call answers a status that its comment in tink.h does not have. The calls are random, and their inputs mostly damaged."""
+
+    def setUp(self):
+        header = os.path.join(os.path.dirname(os.path.abspath(__file__)), "../../bindings/c/tink.h")
+        with open(header) as file:
+            text = file.read()
+        self.names = {int(number): name for name, number in re.findall(r"(TINK_(?!RANDOM_[KES])\w+) = (\d+)", text)}
+        self.comments, self.arguments = {}, {}
+        for name, arguments in re.findall(r"^tink_status (tink_\w+)\((.*?)\);", text, re.M | re.S):
+            before = text[: text.index(f" {name}(")].split("/*")[-1]
+            self.comments[name] = before[before.index("Statuses:") : before.index("*/")]
+            words = [argument.split()[-1].lstrip("*") for argument in arguments.split(",")]
+            self.arguments[name] = [word for word in words if not re.search(r"_len$|^out$|^out_room$|^written$", word)]
+
+    def allowed(self, name):
+        comment = self.comments[name]
+        allowed = set(re.findall(r"TINK_\w+", comment)) | {"TINK_OK", "TINK_TOO_LITTLE_ROOM"}
+        for other in re.findall(r"those of (tink_\w+)", comment):
+            allowed |= self.allowed(other)
+        allowed |= OF_A_KEYSET if "of a keyset" in comment else set()
+        return allowed | (OF_KEYS if "of keys" in comment else set())
+
+    def made(self, chance):
+        """Inputs by the name of the argument: first those that fit, by a word of the call's name, and then any."""
+        templates = {"_mac": "HMAC_SHA256_128BITTAG", "_token": "HMAC_SHA256_128BITTAG", "_prf": "HKDF_SHA256"}
+        templates.update(dict.fromkeys(("_stream", "_range"), "AES128_GCM_HKDF_4KB"), _deterministically="AES256_SIV")
+        fits = {"": {"keyset": Keyset.create("AES128_GCM").rotate("AES128_GCM")}}
+        for word, template in templates.items():
+            fits[word] = {"keyset": Keyset.create(template)}
+        gcm, siv, mac, keys = (fits[word]["keyset"] for word in ("", "_deterministically", "_mac", "_stream"))
+        fits[""].update(ciphertext=Aead(gcm).encrypt(b"text", b"data"), wrapped=gcm.wrap(gcm, b"data"))
+        fits["_deterministically"]["ciphertext"] = DeterministicAead(siv).encrypt_deterministically(b"text", b"data")
+        fits["_mac"]["mac"] = Mac(mac).compute_mac(b"text")
+        fits["_token"]["token"] = tink_proved.sign_token(fits["_token"]["keyset"], b"{}")
+        fits["_stream"]["stream"] = tink_proved.seal_stream(keys, bytes(9000), b"data")
+        fits["_stream"]["to_keyset"] = fits["_range"]["keyset"] = keys
+        fits["_range"]["stream"] = fits["_stream"]["stream"]
+        keysets = [values["keyset"] for values in fits.values()] + [Keyset.create("AES128_CTR_HMAC_SHA256_4KB")]
+        files = [bytes(keyset) for keyset in keysets] + [keyset.to_binary() for keyset in keysets] + [b"", b"{}"]
+        files += [bytes(keyset.rotate("AES128_GCM", to_any=True).disable(keyset.primary_id)) for keyset in keysets]
+        texts = [value for values in fits.values() for value in values.values() if isinstance(value, bytes)] + [b""]
+        pools = dict.fromkeys(("keyset", "master", "to_keyset", "wrapped"), files)
+        pools.update(dict.fromkeys(("ciphertext", "token", "mac", "stream", "associated_data", "to_associated_data"), texts))
+        pools.update(dict.fromkeys(("plaintext", "message", "input", "payload"), texts))
+        pools["template_name"] = [name.encode() for name in templates.values()] + [b"none"]
+        pools["random"] = [bytes(576)] + [os.urandom(count) for count in (0, 11, 12, 16, 39, 52)]
+        pools["id"] = [key.id for keyset in keysets for key in keyset.keys()]
+        pools["start"] = pools["length"] = pools["output_length"] = [0, 1, 16, 5000, 1 << 20, (1 << 64) - 1]
+        pools["json"] = pools["to_any"] = [False, True]
+        common = {"master": gcm, "template_name": b"AES128_GCM", "random": os.urandom(576), "start": 0, "length": 9, "output_length": 9}
+        common.update(dict.fromkeys(("plaintext", "message", "input", "payload"), b"text"), id=gcm.keys()[0].id, json=True)
+        common.update(associated_data=b"data", to_associated_data=b"data", to_any=False)
+        return fits, common, pools
+
+    def values(self, chance, name, fits, common, pools):
+        """Values for a call, of which some do not fit, or are damaged."""
+        word = next((word for word in reversed(list(fits)) if word in name), "")
+        for argument in self.arguments[name]:
+            value = {**common, **fits[""], **fits[word]}.get(argument)
+            if chance.randrange(4) == 0:
+                value = chance.choice(pools[argument])
+            value = bytes(value) if isinstance(value, Keyset) else value
+            yield self.damage(chance, value) if isinstance(value, bytes) and chance.randrange(4) == 0 else value
+
+    def damage(self, chance, data):
+        """Bytes with a word of a keyset replaced, a byte changed, or the end cut off."""
+        how = chance.randrange(3)
+        if how == 0:
+            was, new = chance.choice(WORDS)
+            return data.replace(was, new)
+        if how == 1 and data:
+            place = chance.randrange(len(data))
+            return data[:place] + bytes([data[place] ^ 1 << chance.randrange(8)]) + data[place + 1 :]
+        return data[: chance.randrange(len(data) + 1)]
+
+    def test_statuses(self):
+        chance, seen = random.Random(1), set()
+        made = self.made(chance)
+        for _ in range(400):
+            for name in self.arguments:
+                values = list(self.values(chance, name, *made))
+                try:
+                    lib.done(name, *values) if name == "tink_verify_mac" else lib.output(name, 64, *values)
+                    status = "TINK_OK"
+                except tink_proved.TinkError as error:
+                    status = self.names[error.status]
+                self.assertIn(status, self.allowed(name), (name, values))
+                seen.add((name, status))
+        self.assertEqual({name for name, status in seen if status == "TINK_OK"}, set(self.arguments))
+        self.assertGreater(len(seen), 100)
 
 
 class Streams(unittest.TestCase):
