@@ -10,6 +10,7 @@ import stat
 import subprocess
 import sys
 import tempfile
+from importlib.util import find_spec
 from pathlib import Path
 
 ROOT = Path(__file__).resolve().parents[2]
@@ -86,8 +87,8 @@ def main():
         ("Rust", "cargo", in_rust),
         ("Go", "go", in_go),
     ):
-        if shutil.which(needed) is None:
-            print(f"{needed} is not installed: the example of {name} is left out")
+        if shutil.which(needed) is None or (name == "Python" and find_spec("ensurepip") is None):
+            print(f"{needed} is not installed, or has no venv: the example of {name} is left out")
             continue
         with tempfile.TemporaryDirectory() as folder:
             os.chdir(folder)
