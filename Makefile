@@ -16,7 +16,10 @@ RT = rt
 VERSION = 0.3.0
 OUT = bindings/out
 
-.PHONY: all lib install uninstall deb check check-fleet check-bindings
+# After an installation into the system itself, ldconfig makes the library known to the loader. It needs root.
+LDCONFIG ?= $(if $(DESTDIR),:,PATH="$$PATH:/sbin" ldconfig)
+
+.PHONY: all lib install install-lib uninstall deb check check-fleet check-bindings
 
 all:
 	./tink --version
@@ -38,11 +41,16 @@ install: all lib
 	install -m 644 share/completions/tink.bash "$(SHARE)/bash-completion/completions/tink"
 	install -m 644 share/completions/_tink "$(ZSH)/_tink"
 	install -m 644 share/completions/tink.fish "$(SHARE)/fish/vendor_completions.d/tink.fish"
+	$(MAKE) install-lib
+
+# The library alone, as `make lib` has built it.
+install-lib:
 	install -d "$(INCLUDE)" "$(LIBRARIES)/pkgconfig"
 	install -m 644 bindings/c/tink.h "$(INCLUDE)/tink.h"
 	install -m 644 $(OUT)/libtink.a "$(LIBRARIES)/libtink.a"
 	install -m 755 $(OUT)/libtink.so "$(LIBRARIES)/libtink.so"
 	sed -e 's|@PREFIX@|$(PREFIX)|' -e 's|@VERSION@|$(VERSION)|' bindings/c/tink.pc.in > "$(LIBRARIES)/pkgconfig/tink.pc"
+	$(LDCONFIG) || true
 
 uninstall:
 	rm -f "$(INCLUDE)/tink.h" "$(LIBRARIES)/libtink.a" "$(LIBRARIES)/libtink.so" "$(LIBRARIES)/pkgconfig/tink.pc"
@@ -56,7 +64,7 @@ deb:
 		ZSH="$(CURDIR)/out/deb/usr/share/zsh/vendor-completions"
 	install -d out/deb/DEBIAN out/deb/usr/share/doc/tink-proved
 	install -m 644 LICENSE out/deb/usr/share/doc/tink-proved/copyright
-	install -m 644 share/debian/control out/deb/DEBIAN/control
+	install -m 644 share/debian/control share/debian/triggers out/deb/DEBIAN
 	dpkg-deb --root-owner-group --build out/deb out/$(DEB)
 
 # The gate: every proof, and then the tests of the built program and of the documents.

@@ -1,8 +1,13 @@
 /* Keysets, AEADs, MACs, PRFs, tokens and streams of Tink, by a proved library. Link with libtink.
  *
- * Every call answers a status. Status 0 (TINK_OK) says that the call did exactly what its line here says.
+ * Every call answers a status. Status 0 (TINK_OK) says that the call did exactly what its line here says. Any call may
+ * answer TINK_OUT_OF_MEMORY, and any call with an output TINK_TOO_LITTLE_ROOM. "Statuses" of a call are the others:
+ *   - "of a keyset": TINK_BAD_KEYSET, TINK_BAD_JSON, TINK_INVALID_KEYSET;
+ *   - "of keys": those of a keyset, TINK_INVALID_KEY, TINK_UNSUPPORTED_KEY_TYPE, TINK_NO_PRIMARY, TINK_WRONG_PRIMITIVE.
+ * docs/STATUSES.md says of each what it means, and its remedy.
  *
  * Inputs are a pointer and a length in bytes. A keyset is a file of keys in memory, in JSON or in Tink's binary format.
+ * A template's name and associated data are bytes without an end mark. An id is a number, as tink_keyset_list shows it.
  *
  * Outputs: a call writes its output to the beginning of `out`, which has room for `out_room` bytes, and the length of the
  * output to `*written`. If the room is too small, the status is TINK_TOO_LITTLE_ROOM, `*written` is the room that is
@@ -13,9 +18,9 @@
  * one call that answers TINK_OK alone: a nonce that is used twice breaks the encryption.
  *
  * What the caller upholds, since no proof covers C:
- *   - No pointer is null, not even one whose length is 0.
+ *   - No pointer is null, not even one whose length is 0: hand in the address of any byte, as "".
  *   - The lengths are those of memory that is there.
- *   - No memory that is written (`out`, `*written`) overlaps other memory of the same call.
+ *   - No memory that is written (`out`, `*written`) overlaps other memory of the same call. Inputs may be the same memory.
  *   - A `bool` is 0 or 1.
  *   - malloc aligns to 16 bytes; no call is made from a signal handler.
  *
@@ -66,7 +71,7 @@ enum {
   TINK_BAD_OUTPUT_LENGTH = 49
 };
 
-/* How many random bytes are enough. */
+/* How many random bytes are enough. A call takes what it needs from the first one on. */
 enum {
   TINK_RANDOM_KEY = 576,    /* create, rotate, add */
   TINK_RANDOM_ENCRYPT = 16, /* encrypt, wrap */
@@ -75,25 +80,31 @@ enum {
 
 /* ---- keysets */
 
-/* A new keyset with one key by the template of a name, as "AES256_GCM". */
+/* A new keyset with one key by the template of a name, as "AES256_GCM". It is in JSON if `json`, else in binary.
+ * Statuses: TINK_UNKNOWN_TEMPLATE, TINK_NO_FRESH_ID, TINK_RANDOM_FAULT. */
 tink_status tink_keyset_create(const uint8_t *template_name, size_t template_len, bool json,
                                const uint8_t *random, size_t random_len,
                                uint8_t *out, size_t out_room, size_t *written);
 
 /* The keyset with a new primary key by a template, in the format that it has. The other keys stay. If `to_any` is false, a
- * keyset with an enabled key of another primitive is refused. */
+ * keyset with an enabled key of another primitive is refused (TINK_WRONG_PRIMITIVE).
+ * Statuses: TINK_UNKNOWN_TEMPLATE, those of a keyset, TINK_WRONG_PRIMITIVE, TINK_NO_FRESH_ID, TINK_RANDOM_FAULT. */
 tink_status tink_keyset_rotate(const uint8_t *keyset, size_t keyset_len,
                                const uint8_t *template_name, size_t template_len, bool to_any,
                                const uint8_t *random, size_t random_len,
                                uint8_t *out, size_t out_room, size_t *written);
 
-/* The keyset with a new key by a template, in the format that it has. The primary key stays. */
+/* The keyset with a new key by a template, in the format that it has. The primary key stays.
+ * Statuses: TINK_UNKNOWN_TEMPLATE, those of a keyset, TINK_NO_PRIMARY, TINK_NO_FRESH_ID, TINK_RANDOM_FAULT. */
 tink_status tink_keyset_add(const uint8_t *keyset, size_t keyset_len,
                             const uint8_t *template_name, size_t template_len,
                             const uint8_t *random, size_t random_len,
                             uint8_t *out, size_t out_room, size_t *written);
 
-/* The keyset with the first key of an id changed, in the format that it has. */
+/* The keyset with the first key of an id changed, in the format that it has. A destroyed key has lost its material, and
+ * stays destroyed.
+ * Statuses: those of a keyset, TINK_KEY_NOT_FOUND; TINK_IS_PRIMARY of disable, destroy and delete; TINK_WRONG_KEY_STATUS
+ * of promote (the key is not enabled), enable, disable and destroy. */
 tink_status tink_keyset_promote(const uint8_t *keyset, size_t keyset_len, uint32_t id,
                                 uint8_t *out, size_t out_room, size_t *written);
 tink_status tink_keyset_enable(const uint8_t *keyset, size_t keyset_len, uint32_t id,
@@ -105,24 +116,31 @@ tink_status tink_keyset_destroy(const uint8_t *keyset, size_t keyset_len, uint32
 tink_status tink_keyset_delete(const uint8_t *keyset, size_t keyset_len, uint32_t id,
                                uint8_t *out, size_t out_room, size_t *written);
 
-/* The same keyset in JSON or in the binary format. */
+/* The same keyset, in JSON if `json`, else in binary.
+ * Statuses: those of a keyset. */
 tink_status tink_keyset_convert(const uint8_t *keyset, size_t keyset_len, bool json,
                                 uint8_t *out, size_t out_room, size_t *written);
 
-/* One line a key: id, status, prefix type and type, and which is the primary one. No key material. */
+/* One line a key, without key material: id, status, prefix type, type, and "primary" for the primary one, with tabs between.
+ * Statuses: those of a keyset. */
 tink_status tink_keyset_list(const uint8_t *keyset, size_t keyset_len,
                              uint8_t *out, size_t out_room, size_t *written);
 
-/* The same as an array in JSON. */
+/* The same as an array in JSON of objects with id, status, prefix, type and primary.
+ * Statuses: those of a keyset. */
 tink_status tink_keyset_list_json(const uint8_t *keyset, size_t keyset_len,
                                   uint8_t *out, size_t out_room, size_t *written);
 
-/* The keyset encrypted by the primary key of a master keyset of AEADs, and back. */
+/* The keyset encrypted by the primary key of a master keyset of AEADs, in JSON if `json`, else in binary.
+ * Statuses: those of keys of the master; those of a keyset; TINK_MASTER_FAILED, also if there are too few random bytes. */
 tink_status tink_keyset_wrap(const uint8_t *master, size_t master_len,
                              const uint8_t *keyset, size_t keyset_len,
                              const uint8_t *associated_data, size_t associated_data_len, bool json,
                              const uint8_t *random, size_t random_len,
                              uint8_t *out, size_t out_room, size_t *written);
+
+/* The keyset that a key of the master decrypts, if it was wrapped with this associated data. It is in JSON if `json`.
+ * Statuses: those of keys of the master; those of a keyset; TINK_MASTER_FAILED. */
 tink_status tink_keyset_unwrap(const uint8_t *master, size_t master_len,
                                const uint8_t *wrapped, size_t wrapped_len,
                                const uint8_t *associated_data, size_t associated_data_len, bool json,
@@ -130,11 +148,16 @@ tink_status tink_keyset_unwrap(const uint8_t *master, size_t master_len,
 
 /* ---- AEADs */
 
+/* The ciphertext by the primary key.
+ * Statuses: those of keys, TINK_TEXT_TOO_LONG, TINK_DATA_TOO_LONG, TINK_RANDOM_FAULT. */
 tink_status tink_encrypt(const uint8_t *keyset, size_t keyset_len,
                          const uint8_t *plaintext, size_t plaintext_len,
                          const uint8_t *associated_data, size_t associated_data_len,
                          const uint8_t *random, size_t random_len,
                          uint8_t *out, size_t out_room, size_t *written);
+
+/* The plaintext by any key, if it was encrypted with this associated data. It is no longer than the ciphertext.
+ * Statuses: those of keys, TINK_DECRYPT_FAILED. */
 tink_status tink_decrypt(const uint8_t *keyset, size_t keyset_len,
                          const uint8_t *ciphertext, size_t ciphertext_len,
                          const uint8_t *associated_data, size_t associated_data_len,
@@ -142,10 +165,15 @@ tink_status tink_decrypt(const uint8_t *keyset, size_t keyset_len,
 
 /* ---- deterministic AEADs: equal bytes for equal plaintexts and data */
 
+/* The ciphertext by the primary key.
+ * Statuses: those of keys, TINK_TEXT_TOO_LONG. */
 tink_status tink_encrypt_deterministically(const uint8_t *keyset, size_t keyset_len,
                                            const uint8_t *plaintext, size_t plaintext_len,
                                            const uint8_t *associated_data, size_t associated_data_len,
                                            uint8_t *out, size_t out_room, size_t *written);
+
+/* The plaintext by any key, as of tink_decrypt.
+ * Statuses: those of keys, TINK_DECRYPT_FAILED. */
 tink_status tink_decrypt_deterministically(const uint8_t *keyset, size_t keyset_len,
                                            const uint8_t *ciphertext, size_t ciphertext_len,
                                            const uint8_t *associated_data, size_t associated_data_len,
@@ -153,47 +181,66 @@ tink_status tink_decrypt_deterministically(const uint8_t *keyset, size_t keyset_
 
 /* ---- MACs and pseudorandom functions */
 
+/* The MAC of a message by the primary key.
+ * Statuses: those of keys. */
 tink_status tink_compute_mac(const uint8_t *keyset, size_t keyset_len,
                              const uint8_t *message, size_t message_len,
                              uint8_t *out, size_t out_room, size_t *written);
+
+/* TINK_OK if a key accepts the MAC for the message.
+ * Statuses: those of keys, TINK_MAC_MISMATCH. */
 tink_status tink_verify_mac(const uint8_t *keyset, size_t keyset_len,
                             const uint8_t *mac, size_t mac_len,
                             const uint8_t *message, size_t message_len);
 
-/* The first output_length bytes of the primary function. */
+/* The first `output_length` bytes of the primary function for an input.
+ * Statuses: those of keys, TINK_NOT_RAW, TINK_BAD_OUTPUT_LENGTH. */
 tink_status tink_compute_prf(const uint8_t *keyset, size_t keyset_len,
                              const uint8_t *input, size_t input_len, size_t output_length,
                              uint8_t *out, size_t out_room, size_t *written);
 
 /* ---- tokens */
 
+/* The token of a payload by the primary key of a keyset of MACs, in ASCII.
+ * Statuses: those of keys. */
 tink_status tink_sign_token(const uint8_t *keyset, size_t keyset_len,
                             const uint8_t *payload, size_t payload_len,
                             uint8_t *out, size_t out_room, size_t *written);
+
+/* The payload of a token whose MAC a key accepts. It is no longer than the token.
+ * Statuses: those of keys, TINK_BAD_TOKEN, TINK_MAC_MISMATCH. */
 tink_status tink_verify_token(const uint8_t *keyset, size_t keyset_len,
                               const uint8_t *token, size_t token_len,
                               uint8_t *out, size_t out_room, size_t *written);
 
-/* ---- streams that are held whole */
+/* ---- streams that are held whole: the files that the program `tink` encrypts */
 
+/* The stream of a plaintext under the primary key.
+ * Statuses: those of keys, TINK_RANDOM_FAULT, TINK_UNSUPPORTED_HASH, TINK_TOO_MANY_SEGMENTS. */
 tink_status tink_seal_stream(const uint8_t *keyset, size_t keyset_len,
                              const uint8_t *plaintext, size_t plaintext_len,
                              const uint8_t *associated_data, size_t associated_data_len,
                              const uint8_t *random, size_t random_len,
                              uint8_t *out, size_t out_room, size_t *written);
+
+/* The plaintext of a stream under any key, with the associated data of its sealing. It is no longer than the stream.
+ * Statuses: those of keys, TINK_NO_MATCHING_KEY, TINK_BAD_SEGMENT, TINK_TRUNCATED, TINK_TOO_MANY_SEGMENTS. */
 tink_status tink_open_stream(const uint8_t *keyset, size_t keyset_len,
                              const uint8_t *stream, size_t stream_len,
                              const uint8_t *associated_data, size_t associated_data_len,
                              uint8_t *out, size_t out_room, size_t *written);
 
-/* The bytes of the plaintext from place `start` on, at most `length` of them. */
+/* The bytes of the plaintext from place `start` on, at most `length` of them; none from its end on. Only the first segment,
+ * the last one and those of the range are opened.
+ * Statuses: those of tink_open_stream. */
 tink_status tink_read_range(const uint8_t *keyset, size_t keyset_len,
                             const uint8_t *stream, size_t stream_len,
                             const uint8_t *associated_data, size_t associated_data_len,
                             uint64_t start, uint64_t length,
                             uint8_t *out, size_t out_room, size_t *written);
 
-/* The stream of the same plaintext under the primary key of the keyset `to_keyset`. */
+/* The stream of the same plaintext under the primary key of `to_keyset`, with associated data of its own.
+ * Statuses: those of tink_open_stream; those of keys of `to_keyset`; those of tink_seal_stream. */
 tink_status tink_rewrap_stream(const uint8_t *keyset, size_t keyset_len,
                                const uint8_t *associated_data, size_t associated_data_len,
                                const uint8_t *to_keyset, size_t to_keyset_len,

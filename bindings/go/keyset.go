@@ -4,6 +4,8 @@ package tinkproved
 import "C"
 
 import (
+	"fmt"
+	"io"
 	"strconv"
 	"strings"
 )
@@ -36,7 +38,12 @@ func CreateKeyset(template string) (Keyset, error) {
 }
 
 // Rotate gives the keyset with a new primary key. The other keys stay. It refuses a template of another primitive.
-func (k Keyset) Rotate(template string) (Keyset, error) {
+func (k Keyset) Rotate(template string) (Keyset, error) { return k.rotated(template, false) }
+
+// RotateToAny gives the keyset with a new primary key, which may be of another primitive. The other keys stay.
+func (k Keyset) RotateToAny(template string) (Keyset, error) { return k.rotated(template, true) }
+
+func (k Keyset) rotated(template string, toAny bool) (Keyset, error) {
 	r, err := random(randomKey)
 	if err != nil {
 		return nil, err
@@ -45,7 +52,7 @@ func (k Keyset) Rotate(template string) (Keyset, error) {
 	t, tn := in([]byte(template))
 	rp, rn := in(r)
 	return output(k.room(), func(o *C.uint8_t, n C.size_t, w *C.size_t) C.uint8_t {
-		return C.tink_keyset_rotate(kp, kn, t, tn, false, rp, rn, o, n, w)
+		return C.tink_keyset_rotate(kp, kn, t, tn, C.bool(toAny), rp, rn, o, n, w)
 	})
 }
 
@@ -165,7 +172,15 @@ func Unwrap(wrapped []byte, master Keyset, associatedData []byte) (Keyset, error
 	})
 }
 
-// String shows no key.
-func (k Keyset) String() string { return "Keyset" }
+// KeysJSON lists the keys as an array in JSON, without their material.
+func (k Keyset) KeysJSON() ([]byte, error) {
+	kp, kn := in(k)
+	return output(keysetRoom, func(o *C.uint8_t, n C.size_t, w *C.size_t) C.uint8_t {
+		return C.tink_keyset_list_json(kp, kn, o, n, w)
+	})
+}
+
+// Format shows no key, whatever the verb is.
+func (k Keyset) Format(state fmt.State, verb rune) { io.WriteString(state, "Keyset") }
 
 func (k Keyset) room() int { return 3*len(k) + keysetRoom }

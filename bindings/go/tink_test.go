@@ -4,6 +4,8 @@ import (
 	"bufio"
 	"bytes"
 	"encoding/hex"
+	"encoding/json"
+	"fmt"
 	"io"
 	"os"
 	"strings"
@@ -86,12 +88,23 @@ func TestVectors(t *testing.T) {
 			equal(t, bytesOf(OpenStream(d[0], d[2], d[1])), d[3])
 			part := io.NewSectionReader(NewRangeReader(d[0], d[2], d[1]), 1, 1<<40)
 			equal(t, bytesOf(io.ReadAll(part)), d[3][1:])
+		case "seal": // the wrapper draws its random bytes itself: what was made by those of the vector is read
+			equal(t, bytesOf(OpenStream(d[0], d[4], d[2])), d[1])
+			moved := bytesOf(RewrapStream(d[0], d[2], d[0], []byte("new"), d[4]))
+			equal(t, bytesOf(OpenStream(d[0], moved, []byte("new"))), d[1])
+		case "create":
+			json := Keyset(bytesOf(Keyset(d[2]).JSON()))
+			equal(t, bytesOf(json.Binary()), d[2])
+			made := must[Keyset](t)(CreateKeyset(string(d[0])))
+			if got, want := must[[]Key](t)(json.Keys())[0].Type, must[[]Key](t)(made.Keys())[0].Type; got != want {
+				t.Fatal(got, want)
+			}
 		default:
-			continue
+			t.Fatal(words[0])
 		}
 		checked++
 	}
-	if checked < 8 {
+	if checked != 14 {
 		t.Fatalf("%d vectors", checked)
 	}
 }
@@ -111,6 +124,15 @@ func TestRotation(t *testing.T) {
 	if len(must[[]Key](t)(k.Keys())) != 1 {
 		t.Fatal("a key is left")
 	}
+	_, err = k.Rotate("AES256_SIV")
+	refused(t, err, WrongPrimitive)
+	if len(must[[]Key](t)(keyset(k.RotateToAny("AES256_SIV")).Keys())) != 2 {
+		t.Fatal("no key was added")
+	}
+	var listed []struct{ ID uint32 }
+	if err := json.Unmarshal(must[[]byte](t)(k.KeysJSON()), &listed); err != nil || listed[0].ID != must[[]Key](t)(k.Keys())[0].ID {
+		t.Fatal(listed, err)
+	}
 	_, err = CreateKeyset("none")
 	refused(t, err, UnknownTemplate)
 }
@@ -128,6 +150,42 @@ func TestStream(t *testing.T) {
 	other := must[Keyset](t)(CreateKeyset("AES256_GCM_HKDF_4KB"))
 	moved := must[[]byte](t)(RewrapStream(keys, []byte("data"), other, []byte("new"), stream))
 	equal(t, must[[]byte](t)(OpenStream(other, moved, []byte("new"))), text)
+}
+
+// No way to show a value shows the key, not even from within another struct.
+func TestNothingShowsAKey(t *testing.T) {
+	k := Keyset("the key")
+	reader := NewRangeReader(k, []byte("the key"), nil)
+	values := []any{NewAEAD(k), NewDeterministicAEAD(k), NewMAC(k), NewPRF(k), reader}
+	for _, value := range append(values, struct{ inner any }{values}, k, &k) {
+		for _, verb := range []string{"%v", "%+v", "%#v", "%s", "%q", "%x", "%d"} {
+			shown := strings.ToLower(fmt.Sprintf(verb, value))
+			for _, key := range []string{"the key", "746865", "116 104 101", "0x74, 0x68"} {
+				if strings.Contains(shown, key) {
+					t.Errorf("%s of %T shows %s", verb, value, shown)
+				}
+			}
+		}
+	}
+}
+
+func TestNumbers(t *testing.T) {
+	prf := NewPRF(must[Keyset](t)(CreateKeyset("HKDF_SHA256")))
+	for _, length := range []int{-1, 1 << 20, 1 << 50} {
+		_, err := prf.Compute([]byte("input"), length)
+		refused(t, err, BadOutputLength)
+	}
+	keys := must[Keyset](t)(CreateKeyset("AES128_GCM_HKDF_4KB"))
+	stream := must[[]byte](t)(SealStream(keys, []byte("0123456789"), nil))
+	reader := NewRangeReader(keys, stream, nil)
+	two := make([]byte, 2)
+	if n, err := reader.ReadAt(two, -1); n != 0 || err == nil || err == io.EOF {
+		t.Fatal(n, err)
+	}
+	if n, err := reader.ReadAt(two, 1<<63-1); n != 0 || err != io.EOF {
+		t.Fatal(n, err)
+	}
+	equal(t, must[[]byte](t)(ReadRange(keys, stream, nil, 1<<64-1, 1<<64-1)), nil)
 }
 
 func TestWrapping(t *testing.T) {

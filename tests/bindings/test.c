@@ -58,11 +58,16 @@ static void prepare(void) {
 static int untouched(void) { return memcmp(out, before, ROOM) == 0; }
 static int gave(data d) { return written == d.len && memcmp(out, d.bytes, d.len) == 0 && memcmp(out + d.len, before + d.len, ROOM - d.len) == 0; }
 
-/* A call with the room ROOM, with one byte too little, and with memory refused at each request in turn. */
+/* A call with the room ROOM, with exactly the room that is needed (of which checkers of memory know the end), with one byte
+ * too little, and with memory refused at each request in turn. */
 #define GIVES(want, name, ...)                                            \
   do {                                                                    \
     prepare();                                                            \
     CHECK(name(__VA_ARGS__, out, ROOM, &written) == TINK_OK && gave(want)); \
+    uint8_t *exact_ = malloc((want).len);                                 \
+    CHECK(name(__VA_ARGS__, exact_, (want).len, &written) == TINK_OK && written == (want).len); \
+    CHECK(memcmp(exact_, (want).bytes, written) == 0);                    \
+    free(exact_);                                                         \
     if ((want).len > 0) {                                                 \
       prepare();                                                          \
       CHECK(name(__VA_ARGS__, out, (want).len - 1, &written) == TINK_TOO_LITTLE_ROOM); \
@@ -243,6 +248,85 @@ static void vectors(const char *path) {
   fclose(f);
 }
 
+/* ---- edges of what the header allows */
+
+/* Whether a status is one that the header declares. */
+static int is_declared(tink_status status) {
+  static const tink_status all[] = {0, 10, 13, 14, 15, 16, 17, 18, 19, 20, 21, 22, 23, 24, 25, 27, 28, 30, 31, 32, 33, 34, 35, 42, 44, 46, 47, 48, 49};
+  return memchr(all, status, sizeof all) != NULL;
+}
+
+/* A file of keys that is cut or changed at any place is refused, or is another keyset; nothing is read outside of it. */
+static void damaged(data k, data c, data a) {
+  for (size_t i = 0; i < k.len; i++) {
+    data cut = {malloc(i), i};
+    memcpy(cut.bytes, k.bytes, i);
+    prepare();
+    tink_status status = tink_decrypt(D(cut), D(c), D(a), out, ROOM, &written);
+    CHECK(status != TINK_OK && is_declared(status) && untouched() && written == 0);
+    free(cut.bytes);
+    for (int bit = 0; bit < 8; bit++) {
+      k.bytes[i] ^= (uint8_t)(1 << bit);
+      prepare();
+      status = tink_decrypt(D(k), D(c), D(a), out, ROOM, &written);
+      CHECK(is_declared(status) && (status == TINK_OK || (untouched() && written == 0)));
+      status = tink_keyset_convert(D(k), true, out, ROOM, &written);
+      CHECK(is_declared(status) && (status == TINK_OK || written == 0));
+      k.bytes[i] ^= (uint8_t)(1 << bit);
+    }
+  }
+}
+
+static void edges(void) {
+  uint8_t random[TINK_RANDOM_KEY], place[512], none = 0;
+  for (size_t i = 0; i < sizeof random; i++) random[i] = (uint8_t)(i * 13 + 1);
+  data r = {random, TINK_RANDOM_ENCRYPT}, empty = {&none, 0};
+  prepare();
+  CHECK(tink_keyset_create((const uint8_t *)"AES128_GCM", 10, false, random, sizeof random, out, ROOM, &written) == TINK_OK);
+  data k = kept();
+  /* an empty plaintext, whose output needs no room */
+  prepare();
+  CHECK(tink_encrypt(D(k), D(empty), D(empty), D(r), out, ROOM, &written) == TINK_OK);
+  data c = kept();
+  GIVES(empty, tink_decrypt, D(k), D(c), D(empty));
+  REFUSES(TINK_DECRYPT_FAILED, tink_decrypt, D(k), D(empty), D(empty));
+  REFUSES(TINK_INVALID_KEYSET, tink_decrypt, D(empty), D(c), D(empty));
+  REFUSES(TINK_UNKNOWN_TEMPLATE, tink_keyset_create, D(empty), true, D(r));
+  damaged(k, c, empty);
+  free(c.bytes);
+  /* the same memory as each input, at an odd address */
+  data odd = {place + 1, k.len};
+  memcpy(odd.bytes, k.bytes, k.len);
+  prepare();
+  CHECK(tink_encrypt(D(odd), D(odd), D(odd), D(odd), out + 1, ROOM - 1, &written) == TINK_OK);
+  data same = {malloc(written), written};
+  memcpy(same.bytes, out + 1, written);
+  GIVES(odd, tink_decrypt, D(k), D(same), D(k));
+  free(same.bytes), free(k.bytes);
+  /* the largest numbers, and a stream with a damaged segment between */
+  prepare();
+  CHECK(tink_keyset_create((const uint8_t *)"HKDF_SHA256", 11, false, random, sizeof random, out, ROOM, &written) == TINK_OK);
+  data f = kept();
+  REFUSES(TINK_BAD_OUTPUT_LENGTH, tink_compute_prf, D(f), D(r), SIZE_MAX);
+  free(f.bytes);
+  prepare();
+  CHECK(tink_keyset_create((const uint8_t *)"AES128_GCM_HKDF_4KB", 19, false, random, sizeof random, out, ROOM, &written) == TINK_OK);
+  data s = kept(), text = {calloc(20000, 1), 20000};
+  prepare();
+  CHECK(tink_seal_stream(D(s), D(text), D(empty), random, TINK_RANDOM_STREAM, out, ROOM, &written) == TINK_OK);
+  data sealed = kept();
+  GIVES(empty, tink_read_range, D(s), D(sealed), D(empty), UINT64_MAX, UINT64_MAX);
+  GIVES(empty, tink_read_range, D(s), D(sealed), D(empty), 5, 0);
+  GIVES(text, tink_read_range, D(s), D(sealed), D(empty), 0, UINT64_MAX);
+  sealed.bytes[9000] ^= 1;
+  data ten = {text.bytes, 10};
+  GIVES(ten, tink_read_range, D(s), D(sealed), D(empty), 0, 10);
+  GIVES(ten, tink_read_range, D(s), D(sealed), D(empty), 19990, UINT64_MAX);
+  REFUSES(TINK_BAD_SEGMENT, tink_read_range, D(s), D(sealed), D(empty), 9000, 10);
+  REFUSES(TINK_BAD_SEGMENT, tink_open_stream, D(s), D(sealed), D(empty));
+  free(s.bytes), free(text.bytes), free(sealed.bytes);
+}
+
 /* ---- random calls */
 
 static uint64_t state;
@@ -309,6 +393,7 @@ int main(int argc, char **argv) {
   if (argc < 3 || argc > 4) return 2;
   state = strtoull(argv[2], NULL, 10) * 2 + 1;
   vectors(argv[1]);
+  edges();
   threads();
   loop(argc == 4 ? atoi(argv[3]) : 64);
   printf("C: %lu checks\n", checks);

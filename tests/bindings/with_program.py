@@ -8,7 +8,8 @@ from pathlib import Path
 
 sys.path.insert(0, str(Path(__file__).resolve().parents[2] / "bindings/python"))
 
-from tink_proved import Keyset, open_stream, read_range, rewrap_stream, seal_stream, sign_token, verify_token  # noqa: E402
+from tink_proved import Aead, DeterministicAead, Keyset, Mac, Prf, WrongPrimitive  # noqa: E402
+from tink_proved import open_stream, read_range, rewrap_stream, seal_stream, sign_token, verify_token  # noqa: E402
 
 PROGRAM = os.path.abspath(sys.argv[1])
 checks = 0
@@ -47,7 +48,43 @@ def streams(text):
     same(read("out2"), text)
 
 
+def use_mac(keys):
+    Mac(keys).verify_mac(Mac(keys).compute_mac(b"text"), b"text")
+
+
+USES = [
+    lambda keys: same(Aead(keys).decrypt(Aead(keys).encrypt(b"text", b"data"), b"data"), b"text"),
+    lambda keys: same(len(set(DeterministicAead(keys).encrypt_deterministically(b"text") for _ in "ab")), 1),
+    lambda keys: same(open_stream(keys, seal_stream(keys, b"text")), b"text"),
+    lambda keys: same(len(Prf(keys).compute(b"text", 16)), 16),
+    use_mac,
+]
+
+
+def is_used(use, keys):
+    try:
+        use(keys)
+        return True
+    except WrongPrimitive:
+        return False
+
+
+def templates():
+    """A key by each template of the program has exactly one use, and the random bytes that the wrappers draw are enough."""
+    listed = subprocess.run([PROGRAM, "templates"], check=True, stdout=subprocess.PIPE, text=True).stdout.split()
+    assert len(listed) > 20, listed
+    for name in listed:
+        keys = Keyset.create(name)
+        same([is_used(use, keys) for use in USES].count(True), 1)
+        write("by-library.json", bytes(keys))
+        lines = subprocess.run([PROGRAM, "keys", "by-library.json"], check=True, stdout=subprocess.PIPE, text=True).stdout
+        same(lines.split("\t")[0], str(keys.primary_id))
+        program("add", "by-library.json", name)
+        same(len(Keyset(read("by-library.json")).keys()), 2)
+
+
 def main():
+    templates()
     text = bytes(range(256)) * 100
     keys = Keyset.create("AES256_GCM_HKDF_4KB")
     write("keys.json", bytes(keys)), write("text", text)

@@ -1,29 +1,89 @@
 """The C library by ctypes. Every output goes into a buffer of ours, which is made longer where the library asks for it."""
 
 import ctypes
-import ctypes.util
+import operator
 import os
-from typing import Any, Sequence
+from typing import Any, Dict, List, Union
 
 from .errors import error_of
 
-_TOO_LITTLE_ROOM = 42
+# What is taken as an input.
+Data = Union[bytes, bytearray, memoryview]
+
+# What each function takes, in order. `in` is a pointer and a length; `out` a pointer, its room and where the length goes.
+FUNCTIONS: Dict[str, str] = {
+    "tink_keyset_create": "in bool in out",
+    "tink_keyset_rotate": "in in bool in out",
+    "tink_keyset_add": "in in in out",
+    "tink_keyset_promote": "in u32 out",
+    "tink_keyset_enable": "in u32 out",
+    "tink_keyset_disable": "in u32 out",
+    "tink_keyset_destroy": "in u32 out",
+    "tink_keyset_delete": "in u32 out",
+    "tink_keyset_convert": "in bool out",
+    "tink_keyset_list": "in out",
+    "tink_keyset_list_json": "in out",
+    "tink_keyset_wrap": "in in in bool in out",
+    "tink_keyset_unwrap": "in in in bool out",
+    "tink_encrypt": "in in in in out",
+    "tink_decrypt": "in in in out",
+    "tink_encrypt_deterministically": "in in in out",
+    "tink_decrypt_deterministically": "in in in out",
+    "tink_compute_mac": "in in out",
+    "tink_verify_mac": "in in in",
+    "tink_compute_prf": "in in size out",
+    "tink_sign_token": "in in out",
+    "tink_verify_token": "in in out",
+    "tink_seal_stream": "in in in in out",
+    "tink_open_stream": "in in in out",
+    "tink_read_range": "in in in u64 u64 out",
+    "tink_rewrap_stream": "in in in in in in out",
+}
 
 # Enough random bytes for each call that takes some.
 RANDOM_KEY = 576
 RANDOM_ENCRYPT = 16
 RANDOM_STREAM = 39
 
+_TOO_LITTLE_ROOM = 42
+
+_NUMBERS: Dict[str, Any] = {"u32": ctypes.c_uint32, "u64": ctypes.c_uint64, "size": ctypes.c_size_t}
+
+_TYPES: Dict[str, List[Any]] = {
+    "in": [ctypes.c_char_p, ctypes.c_size_t],
+    "out": [ctypes.c_char_p, ctypes.c_size_t, ctypes.POINTER(ctypes.c_size_t)],
+    "bool": [ctypes.c_bool],
+    **{kind: [number] for kind, number in _NUMBERS.items()},
+}
+
+
+def _opened() -> ctypes.CDLL:
+    given = os.environ.get("TINK_LIBRARY")
+    beside = os.path.join(os.path.dirname(os.path.abspath(__file__)), "libtink.so")
+    places = [given] if given else [beside] * os.path.exists(beside) + ["libtink.so", "/usr/local/lib/libtink.so"]
+    causes = []
+    for place in places:
+        try:
+            return ctypes.CDLL(place)
+        except OSError as error:
+            causes.append(str(error))
+    raise ImportError(
+        f"libtink.so was not loaded ({'; '.join(causes)}): run `make install`, or give its path in TINK_LIBRARY"
+    )
+
 
 def _load() -> ctypes.CDLL:
-    beside = os.path.join(os.path.dirname(os.path.abspath(__file__)), "libtink.so")
-    for name in (os.environ.get("TINK_LIBRARY"), beside if os.path.exists(beside) else None, ctypes.util.find_library("tink"), "libtink.so"):
-        if name:
-            try:
-                return ctypes.CDLL(name)
-            except OSError:
-                continue
-    raise ImportError("libtink.so was not found: run `make install`, or give its path in TINK_LIBRARY")
+    library = _opened()
+    for name, kinds in FUNCTIONS.items():
+        try:
+            function = getattr(library, name)
+        except AttributeError:
+            raise ImportError(
+                f"{library._name} has no {name}: it is another or an older library. Give the path of this one in TINK_LIBRARY"
+            ) from None
+        function.argtypes = [each for kind in kinds.split() for each in _TYPES[kind]]
+        function.restype = ctypes.c_uint8
+    return library
 
 
 _lib = _load()
@@ -34,45 +94,51 @@ def random(count: int) -> bytes:
     return os.urandom(count)
 
 
-def _arguments(arguments: Sequence[Any]) -> list:
-    passed = []
-    for argument in arguments:
-        if isinstance(argument, (bytes, bytearray, memoryview)):
-            data = bytes(argument)
-            passed += [ctypes.c_char_p(data), ctypes.c_size_t(len(data))]
+def data_of(value: Data) -> bytes:
+    """The bytes of an input. A text is none: it has to be encoded."""
+    if not isinstance(value, (bytes, bytearray, memoryview)):
+        raise TypeError(f"bytes are wanted, not {type(value).__name__}")
+    return bytes(value)
+
+
+def number_of(kind: str, value: int) -> int:
+    """A number that the library's type has."""
+    number = operator.index(value)
+    if not 0 <= number < 1 << 8 * ctypes.sizeof(_NUMBERS[kind]):
+        raise ValueError(f"{number} is no number from 0 to 2^{8 * ctypes.sizeof(_NUMBERS[kind])} - 1")
+    return number
+
+
+def _passed(name: str, values: Any) -> List[Any]:
+    kinds = [kind for kind in FUNCTIONS[name].split() if kind != "out"]
+    if len(kinds) != len(values):
+        raise TypeError(f"{name} takes {len(kinds)} values, not {len(values)}")
+    passed: List[Any] = []
+    for kind, value in zip(kinds, values):
+        if kind == "in":
+            data = data_of(value)
+            passed += [data, len(data)]
         else:
-            passed.append(argument)
+            passed.append(bool(value) if kind == "bool" else number_of(kind, value))
     return passed
 
 
-def _call(name: str) -> Any:
-    call = getattr(_lib, name)
-    call.restype = ctypes.c_uint8
-    return call
-
-
-def done(name: str, *arguments: Any) -> None:
+def done(name: str, *values: Any) -> None:
     """Does a call that gives no output, or raises its error."""
-    answered = _call(name)(*_arguments(arguments))
-    if answered != 0:
-        raise error_of(answered)
+    status = getattr(_lib, name)(*_passed(name, values))
+    if status != 0:
+        raise error_of(status)
 
 
-def output(name: str, room: int, *arguments: Any) -> bytes:
+def output(name: str, room: int, *values: Any) -> bytes:
     """The output of a call. `room` is how long it is, as far as we know."""
-    passed, call = _arguments(arguments), _call(name)
+    passed, call = _passed(name, values), getattr(_lib, name)
     written = ctypes.c_size_t(0)
     while True:
         out = ctypes.create_string_buffer(max(room, 1))
-        answered = call(*passed, out, ctypes.c_size_t(room), ctypes.byref(written))
-        if answered == 0:
-            return out.raw[: written.value]
-        if answered != _TOO_LITTLE_ROOM:
-            raise error_of(answered)
+        status = call(*passed, out, len(out), ctypes.byref(written))
+        if status == 0:
+            return bytes(memoryview(out)[: written.value])
+        if status != _TOO_LITTLE_ROOM:
+            raise error_of(status)
         room = written.value
-
-
-boolean = ctypes.c_bool
-u32 = ctypes.c_uint32
-u64 = ctypes.c_uint64
-size = ctypes.c_size_t

@@ -4,52 +4,156 @@ from typing import Dict, Type
 
 
 class TinkError(Exception):
-    """A call was refused. `status` is its number."""
+    """A call was refused. `status` is its number, and `text` says why."""
 
     status: int = 255
     text: str = "the call was refused"
 
-    def __init__(self) -> None:
-        super().__init__(self.text)
+    def __str__(self) -> str:
+        return self.text
 
 
-BY_STATUS: Dict[int, Type[TinkError]] = {}
+class OutOfMemory(TinkError):
+    status = 10
+    text = "there is no memory"
 
 
-def _error(name: str, status: int, text: str) -> Type[TinkError]:
-    made = type(name, (TinkError,), {"status": status, "text": text, "__doc__": text, "__module__": __name__})
-    BY_STATUS[status] = made
-    return made
+class BadKeyset(TinkError):
+    status = 13
+    text = "it is no keyset in JSON or in the binary format"
 
 
-OutOfMemory = _error("OutOfMemory", 10, "there is no memory")
-BadKeyset = _error("BadKeyset", 13, "it is no keyset in JSON or in the binary format")
-InvalidKeyset = _error("InvalidKeyset", 14, "the keyset is not valid: it has no primary key that is enabled")
-UnsupportedKeyType = _error("UnsupportedKeyType", 15, "the keyset has a key of a type that is not known")
-InvalidKey = _error("InvalidKey", 16, "the keyset has a key with a value that is none of its type")
-NoPrimary = _error("NoPrimary", 17, "no enabled key is the primary key: promote one")
-WrongPrimitive = _error("WrongPrimitive", 18, "the keyset has a key for another use")
-UnsupportedHash = _error("UnsupportedHash", 19, "the primary key derives by a hash that no stream takes")
-TooManySegments = _error("TooManySegments", 20, "the stream has more than 2^32 segments")
-NoMatchingKey = _error("NoMatchingKey", 21, "no key opens this stream: other keys, other associated data or a damaged beginning")
-BadSegment = _error("BadSegment", 22, "a segment of the stream was changed")
-Truncated = _error("Truncated", 23, "the stream was cut off")
-UnknownTemplate = _error("UnknownTemplate", 24, "no template has this name")
-NoFreshId = _error("NoFreshId", 25, "no unused key id was drawn: try again")
-BadToken = _error("BadToken", 27, "it is no token")
-MacMismatch = _error("MacMismatch", 28, "no key accepts this MAC")
-BadJson = _error("BadJson", 30, "it begins as JSON and is no keyset")
-KeyNotFound = _error("KeyNotFound", 31, "no key has this id")
-IsPrimary = _error("IsPrimary", 32, "it is the primary key: promote another one first")
-WrongKeyStatus = _error("WrongKeyStatus", 33, "the key's status does not allow this")
-MasterFailed = _error("MasterFailed", 34, "the master keyset refuses it: other keys or other associated data")
-RandomFault = _error("RandomFault", 35, "too few random bytes were handed in")
-TooLittleRoom = _error("TooLittleRoom", 42, "the buffer is too small")
-DecryptFailed = _error("DecryptFailed", 44, "no key decrypts it with this associated data")
-TextTooLong = _error("TextTooLong", 46, "the plaintext is longer than the cipher takes")
-DataTooLong = _error("DataTooLong", 47, "the associated data is longer than the cipher takes")
-NotRaw = _error("NotRaw", 48, "a pseudorandom function has a key with an output prefix")
-BadOutputLength = _error("BadOutputLength", 49, "the function gives no output of this length")
+class InvalidKeyset(TinkError):
+    status = 14
+    text = "the keyset is not valid: it has no primary key that is enabled"
+
+
+class UnsupportedKeyType(TinkError):
+    status = 15
+    text = "the keyset has a key of a type that is not known"
+
+
+class InvalidKey(TinkError):
+    status = 16
+    text = "the keyset has a key with a value that is none of its type"
+
+
+class NoPrimary(TinkError):
+    status = 17
+    text = "no enabled key is the primary key: promote one"
+
+
+class WrongPrimitive(TinkError):
+    status = 18
+    text = "the keyset has a key for another use"
+
+
+class UnsupportedHash(TinkError):
+    status = 19
+    text = "the primary key derives by a hash that no stream takes"
+
+
+class TooManySegments(TinkError):
+    status = 20
+    text = "the stream has more than 2^32 segments"
+
+
+class NoMatchingKey(TinkError):
+    status = 21
+    text = "no key opens this stream: other keys, other associated data or a damaged beginning"
+
+
+class BadSegment(TinkError):
+    status = 22
+    text = "a segment of the stream was changed"
+
+
+class Truncated(TinkError):
+    status = 23
+    text = "the stream was cut off"
+
+
+class UnknownTemplate(TinkError):
+    status = 24
+    text = "no template has this name"
+
+
+class NoFreshId(TinkError):
+    status = 25
+    text = "no unused key id was drawn: try again"
+
+
+class BadToken(TinkError):
+    status = 27
+    text = "it is no token"
+
+
+class MacMismatch(TinkError):
+    status = 28
+    text = "no key accepts this MAC"
+
+
+class BadJson(TinkError):
+    status = 30
+    text = "it begins as JSON and is no keyset"
+
+
+class KeyNotFound(TinkError):
+    status = 31
+    text = "no key has this id"
+
+
+class IsPrimary(TinkError):
+    status = 32
+    text = "it is the primary key: promote another one first"
+
+
+class WrongKeyStatus(TinkError):
+    status = 33
+    text = "the key's status does not allow this"
+
+
+class MasterFailed(TinkError):
+    status = 34
+    text = "the master keyset refuses it: other keys or other associated data"
+
+
+class RandomFault(TinkError):
+    status = 35
+    text = "too few random bytes were handed in"
+
+
+class TooLittleRoom(TinkError):
+    status = 42
+    text = "the buffer is too small"
+
+
+class DecryptFailed(TinkError):
+    status = 44
+    text = "no key decrypts it with this associated data"
+
+
+class TextTooLong(TinkError):
+    status = 46
+    text = "the plaintext is longer than the cipher takes"
+
+
+class DataTooLong(TinkError):
+    status = 47
+    text = "the associated data is longer than the cipher takes"
+
+
+class NotRaw(TinkError):
+    status = 48
+    text = "a pseudorandom function has a key with an output prefix"
+
+
+class BadOutputLength(TinkError):
+    status = 49
+    text = "the function gives no output of this length"
+
+
+BY_STATUS: Dict[int, Type[TinkError]] = {error.status: error for error in TinkError.__subclasses__()}
 
 
 def error_of(status: int) -> TinkError:
@@ -58,4 +162,5 @@ def error_of(status: int) -> TinkError:
         return BY_STATUS[status]()
     error = TinkError()
     error.status = status
+    error.text = f"the call was refused: status {status}"
     return error

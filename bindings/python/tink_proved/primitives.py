@@ -3,6 +3,9 @@
 from . import _library as lib
 from .keysets import Keyset
 
+# No function has a longer output.
+_LONGEST_PRF = 1 << 14
+
 
 class _OfKeyset:
     """What a keyset is asked for. Each call loads the keyset."""
@@ -49,8 +52,8 @@ class Prf(_OfKeyset):
     """The pseudorandom functions of a keyset."""
 
     def compute(self, value: bytes, length: int) -> bytes:
-        """The first bytes of the primary function for an input."""
-        return lib.output("tink_compute_prf", length, self._keyset, value, lib.size(length))
+        """The first `length` bytes of the primary function for an input."""
+        return lib.output("tink_compute_prf", min(length, _LONGEST_PRF), self._keyset, value, length)
 
 
 def sign_token(keyset: Keyset, payload: bytes) -> bytes:

@@ -1,6 +1,7 @@
 """Streams that are held whole: sealed, opened, read by ranges, and moved to another keyset."""
 
 import io
+from typing import Any
 
 from . import _library as lib
 from .keysets import Keyset
@@ -21,7 +22,7 @@ def open_stream(keyset: Keyset, stream: bytes, associated_data: bytes = b"") -> 
 def read_range(keyset: Keyset, stream: bytes, associated_data: bytes, start: int, length: int) -> bytes:
     """The bytes of the plaintext from the place `start` on, at most `length` of them."""
     room = min(length, len(stream))
-    return lib.output("tink_read_range", room, bytes(keyset), stream, associated_data, lib.u64(start), lib.u64(length))
+    return lib.output("tink_read_range", room, bytes(keyset), stream, associated_data, start, length)
 
 
 def rewrap_stream(keyset: Keyset, associated_data: bytes, to: Keyset, to_associated_data: bytes, stream: bytes) -> bytes:
@@ -34,7 +35,8 @@ def rewrap_stream(keyset: Keyset, associated_data: bytes, to: Keyset, to_associa
 
 
 class RangeReader(io.RawIOBase):
-    """The plaintext of a stream as a file that is read at any place. Only the segments that are read are opened."""
+    """The plaintext of a stream as a file that is read at any place. Each read opens the first
+    segment, the last one and those that it reads."""
 
     def __init__(self, keyset: Keyset, stream: bytes, associated_data: bytes = b"") -> None:
         self._keyset, self._stream, self._data, self._at = keyset, bytes(stream), associated_data, 0
@@ -52,11 +54,22 @@ class RangeReader(io.RawIOBase):
         """Moves to a place from the beginning or from here. The end is not known before it is read."""
         if whence == io.SEEK_END:
             raise io.UnsupportedOperation("the length of the plaintext is not known")
-        self._at = max(offset + (self._at if whence == io.SEEK_CUR else 0), 0)
+        place = offset + (self._at if whence == io.SEEK_CUR else 0)
+        if place < 0:
+            raise ValueError(f"there is no place {place}")
+        self._at = place
         return self._at
 
-    def readinto(self, buffer) -> int:  # type: ignore[no-untyped-def]
-        part = read_range(self._keyset, self._stream, self._data, self._at, len(buffer))
+    def readinto(self, buffer: Any) -> int:
+        part = self._part(len(buffer))
         buffer[: len(part)] = part
-        self._at += len(part)
         return len(part)
+
+    def readall(self) -> bytes:
+        """All that is left, by one call."""
+        return self._part(len(self._stream))
+
+    def _part(self, length: int) -> bytes:
+        part = read_range(self._keyset, self._stream, self._data, self._at, length)
+        self._at += len(part)
+        return part

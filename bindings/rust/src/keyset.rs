@@ -35,9 +35,18 @@ impl Keyset {
 
     /// The keyset with a new primary key. The other keys stay. It refuses a template of another primitive.
     pub fn rotate(&self, template: &str) -> Result<Keyset, Error> {
+        self.rotated(template, false)
+    }
+
+    /// The keyset with a new primary key, which may be of another primitive. The other keys stay.
+    pub fn rotate_to_any(&self, template: &str) -> Result<Keyset, Error> {
+        self.rotated(template, true)
+    }
+
+    fn rotated(&self, template: &str, any: bool) -> Result<Keyset, Error> {
         let (k, t, r) = (&self.bytes, template, random(sys::RANDOM_KEY)?);
         output(self.room(), |o, n, w| unsafe {
-            sys::tink_keyset_rotate(k.as_ptr(), k.len(), t.as_ptr(), t.len(), false, r.as_ptr(), r.len(), o, n, w)
+            sys::tink_keyset_rotate(k.as_ptr(), k.len(), t.as_ptr(), t.len(), any, r.as_ptr(), r.len(), o, n, w)
         })
         .map(Keyset::from)
     }
@@ -56,10 +65,12 @@ impl Keyset {
         self.edited(sys::tink_keyset_promote, id)
     }
 
+    /// The keyset with this key enabled.
     pub fn enable(&self, id: u32) -> Result<Keyset, Error> {
         self.edited(sys::tink_keyset_enable, id)
     }
 
+    /// The keyset with this key disabled.
     pub fn disable(&self, id: u32) -> Result<Keyset, Error> {
         self.edited(sys::tink_keyset_disable, id)
     }
@@ -80,6 +91,12 @@ impl Keyset {
         let lines = output(ROOM, |o, n, w| unsafe { sys::tink_keyset_list(k.as_ptr(), k.len(), o, n, w) })?;
         let text = String::from_utf8(lines).map_err(|_| Error::BadKeyset)?;
         text.lines().map(|line| key_of(line).ok_or(Error::BadKeyset)).collect()
+    }
+
+    /// The same as an array in JSON.
+    pub fn keys_json(&self) -> Result<Vec<u8>, Error> {
+        let k = &self.bytes;
+        output(ROOM, |o, n, w| unsafe { sys::tink_keyset_list_json(k.as_ptr(), k.len(), o, n, w) })
     }
 
     /// The keyset in JSON, with its keys in clear.

@@ -2,6 +2,9 @@ use crate::error::Error;
 use crate::keyset::Keyset;
 use crate::sys::{self, done, output, random};
 
+// No function has a longer output.
+const LONGEST_PRF: usize = 1 << 14;
+
 /// The AEADs of a keyset: the primary key encrypts, and any key decrypts. Each call loads the keyset.
 pub struct Aead<'k>(&'k Keyset);
 
@@ -81,7 +84,7 @@ impl<'k> Prf<'k> {
     /// The first `length` bytes of the primary function for an input.
     pub fn compute(&self, input: &[u8], length: usize) -> Result<Vec<u8>, Error> {
         let (k, i) = (self.0.as_bytes(), input);
-        output(length, |o, n, w| unsafe {
+        output(length.min(LONGEST_PRF), |o, n, w| unsafe {
             sys::tink_compute_prf(k.as_ptr(), k.len(), i.as_ptr(), i.len(), length, o, n, w)
         })
     }

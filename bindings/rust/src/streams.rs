@@ -49,7 +49,8 @@ fn room(len: usize) -> usize {
     len + len / 64 + 1024
 }
 
-/// The plaintext of a stream in memory, which is read at any place. Only the segments that are read are opened.
+/// The plaintext of a stream in memory, which is read at any place. Each read opens
+/// the first segment, the last one and those that it reads.
 pub struct RangeReader<'k> {
     keyset: &'k Keyset,
     stream: &'k [u8],
@@ -77,7 +78,7 @@ impl Seek for RangeReader<'_> {
     fn seek(&mut self, to: SeekFrom) -> io::Result<u64> {
         let place = match to {
             SeekFrom::Start(place) => Some(place),
-            SeekFrom::Current(by) => self.at.checked_add_signed(by),
+            SeekFrom::Current(by) => u64::try_from(i128::from(self.at) + i128::from(by)).ok(),
             SeekFrom::End(_) => None,
         };
         self.at = place.ok_or(io::Error::from(io::ErrorKind::InvalidInput))?;

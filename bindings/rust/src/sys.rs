@@ -27,6 +27,7 @@ functions! {
     fn tink_keyset_delete(k: In, kn: usize, id: u32, o: Out, on: usize, w: Len);
     fn tink_keyset_convert(k: In, kn: usize, json: bool, o: Out, on: usize, w: Len);
     fn tink_keyset_list(k: In, kn: usize, o: Out, on: usize, w: Len);
+    fn tink_keyset_list_json(k: In, kn: usize, o: Out, on: usize, w: Len);
     fn tink_keyset_wrap(m: In, mn: usize, k: In, kn: usize, a: In, an: usize, json: bool, r: In, rn: usize, o: Out, on: usize, w: Len);
     fn tink_keyset_unwrap(m: In, mn: usize, k: In, kn: usize, a: In, an: usize, json: bool, o: Out, on: usize, w: Len);
     fn tink_seal_stream(k: In, kn: usize, p: In, pn: usize, a: In, an: usize, r: In, rn: usize, o: Out, on: usize, w: Len);

@@ -60,11 +60,25 @@ fn vectors() {
                 reader.read_to_end(&mut end).unwrap();
                 assert_eq!(end, d[3][1..]);
             }
-            _ => continue,
+            // The wrapper draws its random bytes itself: what was made by those of the vector is read.
+            "seal" => {
+                let keyset = Keyset::from(d[0].clone());
+                assert_eq!(open_stream(&keyset, &d[4], &d[2]).unwrap(), d[1]);
+                let moved = rewrap_stream((&keyset, &d[2]), (&keyset, b"new"), &d[4]).unwrap();
+                assert_eq!(open_stream(&keyset, &moved, b"new").unwrap(), d[1]);
+            }
+            "create" => {
+                let keyset = Keyset::from(d[2].clone());
+                let json = Keyset::from(keyset.to_json().unwrap());
+                assert_eq!(json.to_binary().unwrap(), d[2]);
+                let kind = Keyset::create(std::str::from_utf8(&d[0]).unwrap()).unwrap().keys().unwrap()[0].kind.clone();
+                assert_eq!(json.keys().unwrap()[0].kind, kind);
+            }
+            _ => panic!("{kind}"),
         }
         checked += 1;
     }
-    assert!(checked >= 8);
+    assert_eq!(checked, 14);
 }
 
 #[test]
@@ -81,6 +95,10 @@ fn a_rotation() {
     assert_eq!(keyset.keys().unwrap().len(), 1);
     assert_eq!(keyset.add("AES128_GCM").unwrap().keys().unwrap().len(), 2);
     assert_eq!(keyset.rotate("AES256_SIV"), Err(Error::WrongPrimitive));
+    assert_eq!(keyset.rotate_to_any("AES256_SIV").unwrap().keys().unwrap().len(), 2);
+    let id = format!("\"id\":{}", keyset.keys().unwrap()[0].id);
+    let json: String = String::from_utf8(keyset.keys_json().unwrap()).unwrap().split_whitespace().collect();
+    assert!(json.starts_with('[') && json.contains(&id), "{json}");
     assert_eq!(Keyset::from(keyset.to_binary().unwrap()).to_json().unwrap(), keyset.as_bytes());
     assert_eq!(format!("{keyset:?}"), "Keyset");
 }
@@ -107,11 +125,45 @@ fn a_whole_stream() {
 }
 
 #[test]
+fn places_of_a_stream() {
+    let keys = Keyset::create("AES128_GCM_HKDF_4KB").unwrap();
+    let stream = seal_stream(&keys, b"0123456789", b"").unwrap();
+    let mut reader = RangeReader::new(&keys, &stream, b"");
+    let mut two = [0; 2];
+    assert_eq!(reader.seek(SeekFrom::Start(7)).unwrap(), 7);
+    assert_eq!(reader.seek(SeekFrom::Current(-4)).unwrap(), 3);
+    reader.read_exact(&mut two).unwrap();
+    assert_eq!(&two, b"34");
+    for wrong in [SeekFrom::Current(-6), SeekFrom::Current(i64::MIN), SeekFrom::End(0)] {
+        assert!(reader.seek(wrong).is_err());
+    }
+    assert_eq!(reader.seek(SeekFrom::Start(u64::MAX)).unwrap(), u64::MAX);
+    assert!(reader.seek(SeekFrom::Current(1)).is_err());
+    assert_eq!(reader.read(&mut two).unwrap(), 0);
+    assert_eq!(read_range(&keys, &stream, b"", u64::MAX, u64::MAX).unwrap(), b"");
+}
+
+// A keyset and what it is asked for may be used by more threads at once.
+#[test]
+fn all_may_be_shared() {
+    fn shared<T: Send + Sync>() {}
+    shared::<Keyset>();
+    shared::<Aead>();
+    shared::<DeterministicAead>();
+    shared::<Mac>();
+    shared::<Prf>();
+    shared::<RangeReader>();
+    shared::<Error>();
+}
+
+#[test]
 fn functions_and_threads() {
     let functions = Keyset::create("HKDF_SHA256").unwrap();
     let prf = Prf::new(&functions);
     assert_eq!(prf.compute(b"input", 16).unwrap(), prf.compute(b"input", 32).unwrap()[..16]);
-    assert_eq!(prf.compute(b"input", 1 << 20), Err(Error::BadOutputLength));
+    for length in [1 << 20, usize::MAX] {
+        assert_eq!(prf.compute(b"input", length), Err(Error::BadOutputLength));
+    }
     let keyset = Keyset::create("AES256_GCM").unwrap();
     std::thread::scope(|scope| {
         for i in 0..2 {
