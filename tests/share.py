@@ -162,8 +162,8 @@ def zsh_line(folder, line):
     os.write(terminal, b"PS1=; unsetopt prompt_cr prompt_sp; stty -echo; LISTMAX=999\n")
     functions = os.path.join(ROOT, "share", "completions")
     os.write(terminal, f"fpath=({functions} $fpath); autoload -Uz compinit; compinit -D -u\n".encode())
-    # The line is not run: its words are printed.
-    os.write(terminal, b"show() { BUFFER=\"print -r -- 'made:'${(q)BUFFER}\"; zle accept-line }; zle -N show; bindkey '^X' show; print rea''dy\n")
+    # The line is not run: its words are printed. The mark is in two parts, so that what zsh shows of the line has no such mark.
+    os.write(terminal, b"show() { BUFFER=\"print -r -- 'ma''de:'${(q)BUFFER}\"; zle accept-line }; zle -N show; bindkey '^X' show; print rea''dy\n")
     shown = b""
     while b"ready" not in shown:
         shown += os.read(terminal, 65536)
