@@ -32,7 +32,7 @@ fn apply<C: StreamCipher>(cipher: &mut C, text: &mut [u8], size: usize) -> bool 
     told
 }
 
-/// Whether n zero bytes, n being at most 300, in calls of so many become the keystream's, and no byte behind them is
+/// Whether n zero bytes, n being at most 300, in calls of that length become the keystream's, and no byte behind them is
 /// changed.
 pub fn applies<C: StreamCipher + Drop>(mut cipher: C, n: usize, size: usize) -> bool {
     let n = n.min(300);

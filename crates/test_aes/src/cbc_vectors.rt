@@ -95,7 +95,7 @@ const WRONG: &[Told; 2] = &[
     Err("single block decryption failure"),
 ];
 
-/// What is asked.
+/// A request of a row.
 pub enum Asked {
     Small,
     Large,

@@ -130,20 +130,20 @@ pub enum Flavor {
     Ctr128LE,
 }
 
-/// What is asked of a flavour from a nonce on.
+/// A request to a flavour from a nonce on.
 #[derive(Drop)]
 pub enum Asked {
     // To have that name, and to begin with those blocks.
     Begin(&'static str, [[u8; 16]; 3]),
     // To go on from a position with those blocks up to that block, where so many remain.
     Go(u32, [u8; 64], u128, Option<usize>),
-    /// To apply the keystream of `block_by_block` to so many bytes, so many in each call.
+    /// To apply the keystream of `block_by_block` to this number of bytes, that number in each call.
     Apply(usize, usize),
     // To do that from that block on.
     From(u128, OfCore),
 }
 
-/// What is asked of a core.
+/// A request to a core.
 #[derive(Drop)]
 pub enum OfCore {
     GiveTheLast(u32),
@@ -191,7 +191,7 @@ fn does<C: KeyInit<16> + BlockCipherEncrypt<16> + Drop, F: CtrFlavor<16>>(
     core_answers::<C, CtrCore<C, F, 16>>(F::NAME.as_str(), iv, asked)
 }
 
-/// Whether a flavour does what is asked from a nonce on.
+/// Whether a flavour fulfils a request from a nonce on.
 pub fn holds(flavor: &Flavor, iv: &[u8; 16], asked: &Asked) -> bool {
     match flavor {
         Flavor::Ctr32BE => does::<Aes128, flavors::Ctr32BE>(iv, asked),

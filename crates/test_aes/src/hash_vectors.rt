@@ -52,7 +52,7 @@ fn refuses_more(h: Hash, ikm: &[u8]) -> bool {
     told == Err(OutputTooLong) && key == [7; 5101]
 }
 
-/// So many bytes, at most 5,100, of some material, a salt and an info, and the last of them.
+/// This number of bytes, at most 5,100, of some material, a salt and an info, and the last of them.
 pub struct Derivation(
     &'static [u8],
     &'static [u8],
@@ -61,7 +61,7 @@ pub struct Derivation(
     &'static [u8],
 );
 
-/// What is asked of a hash.
+/// A request to a hash.
 pub enum Asked {
     // A digest of `abc` that begins so.
     Digest(&'static [u8]),

@@ -1,4 +1,4 @@
-//! Tests of AES and of what stands on it: of `aes_block`, `example_cbc`, `ctr`, `hash_keys` and `gcm`.
+//! Tests of AES and of the crates over it: of `aes_block`, `example_cbc`, `ctr`, `hash_keys` and `gcm`.
 #![tactic(auto)]
 
 #[cfg(test)]

@@ -35,7 +35,7 @@ fn copied_nonce() -> Result<Nonce, AllocError> {
 
 type Core = CtrCore<Aes128, flavors::Ctr128BE, 16>;
 
-/// The names, of which the last two are what `Debug` shows.
+/// The names. `Debug` shows the last two.
 pub const NAMES: &str =
     "Aes128; Aes192; Aes256; Ctr128BE<Aes128>; Ctr128BE<Aes128> { ... }; CtrNonce32 { ... }";
 

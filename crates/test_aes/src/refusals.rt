@@ -1,4 +1,4 @@
-//! What is refused, and a caller of `seal_into` with a contract of its own.
+//! Calls that are refused, and a caller of `seal_into` with a contract of its own.
 
 ghost use Rattle.std.specs.Prelude.{◌≡◌, [], IfOk};
 ghost use Rattle.standards.specs.Gcm.{gcm};

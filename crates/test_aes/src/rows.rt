@@ -1,4 +1,4 @@
-//! What is asked, and the tests that walk all rows.
+//! The requests, and the tests that walk all rows.
 
 use crate::counter_mode::Flavor;
 use crate::each_length::KEY;
@@ -12,7 +12,7 @@ use gcm::{ghash, polyval};
 use hash_keys::Hash;
 use std::alloc::{AllocError, Global};
 
-/// What is asked.
+/// A request of a row.
 pub enum Asked {
     /// Of a cipher under a key.
     Key(&'static [u8], under_keys::Asked),
@@ -36,7 +36,7 @@ pub enum Asked {
     Names,
 }
 
-/// Its name, and what is asked.
+/// Its name, and its request.
 pub struct Row(pub &'static str, pub Asked);
 
 impl Holds for Row {

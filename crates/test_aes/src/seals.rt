@@ -128,7 +128,7 @@ fn refuses_changes<S: Sealer>(s: &S) -> bool {
     same
 }
 
-/// What is asked of a sealer.
+/// A request to a sealer.
 #[derive(Drop)]
 pub enum Asked {
     /// To seal under a nonce and with data a text to bytes that end so, and to open them.
@@ -162,7 +162,7 @@ fn does<S: Sealer>(s: &S, asked: &Asked) -> bool {
     }
 }
 
-/// Whether the sealer does what is asked.
+/// Whether the sealer fulfils the request.
 pub fn holds(of: &Of, asked: &Asked) -> bool {
     match of {
         Of::Gcm(key) => does(&Gcm::new(Aes128::new(key)), asked),

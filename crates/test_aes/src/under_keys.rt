@@ -8,11 +8,11 @@ use cipher::{BlockCipherDecrypt, BlockCipherEncrypt, KeyInit};
 use gcm::Gcm;
 use hash_keys::cmac_into;
 
-/// What is asked under a key.
+/// A request under a key.
 pub enum Asked {
     /// To encrypt a block to that one, and to decrypt it again, also by a copy.
     Block(&'static [u8; 16], &'static [u8; 16]),
-    /// To make that tag of so many bytes of the text of SP 800-38B.
+    /// To make that tag of this number of bytes of the text of SP 800-38B.
     Cmac(usize, [u8; 16]),
     /// To seal under a nonce and with data a text to those bytes, and to open them.
     Gcm([u8; 12], &'static [u8], &'static [u8], &'static [u8]),

@@ -1,4 +1,4 @@
-//! One test a crate of rows. The rows stand in libraries, so that one test program is linked with all primitives.
+//! One test a crate of rows. The rows are in libraries, so that one test program is linked with all primitives.
 
 use std::process::Abort;
 use test_util::Told;

@@ -1,4 +1,4 @@
-//! One test a crate of rows. The rows stand in libraries, so that one test program is linked with all that they reach.
+//! One test a crate of rows. The rows are in libraries, so that one test program is linked with all that they reach.
 //!
 //! Of all programs of tests this one is linked with most.
 
@@ -21,13 +21,13 @@ fn tasks(rt: HostRuntime) {
 }
 
 /// Seals, opens, moves, tokens and ranges over memory: what each leaves in a place. Files of keys that are made,
-/// rotated, wrapped and unwrapped, to the byte, and what stands after a refusal.
+/// rotated, wrapped and unwrapped, to the byte, and the state after a refusal.
 #[test]
 fn runs_and_files(rt: HostRuntime) {
     hold(&rt, test_tink_cli_files::rows(rt.alloc()));
 }
 
-/// The commands of the program by their words: what each is to write, its status, and what stands after a refusal.
+/// The commands of the program by their words: what each is to write, its status, and the state after a refusal.
 ///
 /// Its rows are texts. What fails is the first row that does not hold, with the way and the numbers in which it was
 /// run. Step by step, under `rt try --test`, they came to no end in five minutes.

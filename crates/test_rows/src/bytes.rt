@@ -45,7 +45,7 @@ pub fn number(text: &str) -> usize {
     text.parse::<usize>().unwrap_or(0)
 }
 
-/// What stands before and behind a letter in a text; all of it and this, where it has none.
+/// The parts of a text before and behind a letter. Without the letter they are the whole text, and this one.
 pub fn cut<'a>(text: &'a str, at: char, otherwise: &'a str) -> (&'a str, &'a str) {
     text.split_once(at).unwrap_or((text, otherwise))
 }
@@ -69,8 +69,8 @@ pub fn of_digits(alloc: Global, digits: &[u8]) -> Result<Vec<u8>, TinkError> {
     }
 }
 
-/// Puts the words of a text, apart by blanks: a name stands for the digits of its bytes, `@n` for a template, `''` for
-/// no text and `␣` for a blank.
+/// Puts the words of a text, apart by blanks: in place of a name the digits of its bytes, of `@n` a template, of `''`
+/// no text and of `␣` a blank.
 pub fn put_words(
     alloc: Global,
     kept: &[Named],

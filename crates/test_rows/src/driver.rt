@@ -2,7 +2,7 @@
 //!
 //! A row is `PHRASE | WORDS | INPUT | STATUS | OUTPUT | SETTINGS`: what a call is to do with words and an input, and
 //! which status it is to answer and what to write. It is run for each number of a range `a..b` in its phrase, which
-//! stands for `%` in the row, and for each of a second range, which stands for `~`. A setting `keep=NAME` gives what was
+//! replaces `%` in the row, and for each of a second range, which replaces `~`. A setting `keep=NAME` gives what was
 //! written a name, and `line=NAME` the bytes whose digits were written as a line; the words `bytes` write their input.
 
 use crate::bytes::{Named, number, of_digits, put_bytes, put_words};
@@ -18,7 +18,7 @@ const URL: &str =
 /// Tables of rows, and the calls that they make.
 pub trait Calls {
     /// The tables of that number, of a row a line. The line `ways:` before a table has the ways in which it is run:
-    /// settings that stand behind each row, with semicolons between the ways. Behind the last tables there are none.
+    /// settings that follow each row, with semicolons between the ways. Behind the last tables there are none.
     fn tables(&self, number: usize) -> Option<&'static str>;
 
     /// The status of a call by these words and settings, over these ends.

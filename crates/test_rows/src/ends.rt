@@ -12,7 +12,7 @@ pub struct Ends {
     pub line: SureSink,
 }
 
-/// The text of a setting, which stands behind its name and `=`.
+/// The text of a setting, behind its name and `=`.
 pub fn setting<'a>(settings: &'a str, name: &str) -> Option<&'a str> {
     for word in settings.split(' ') {
         if let Some((key, value)) = word.split_once('=') {
@@ -88,7 +88,7 @@ pub fn side_of(alloc: Global, words: &[String], place: usize) -> Result<Side, Ti
     Ok(Side { keyset, aad })
 }
 
-/// The status of an answer, whose line is told.
+/// The status of an answer, whose line is written.
 pub fn answered<T: Copy>(answer: Result<T, TinkError>, ends: &mut Ends) -> u8 {
     match answer {
         Ok(_) => 0,

@@ -1,4 +1,4 @@
-//! Whether what was told and written is what a row wants.
+//! Whether the status, the line and the output are those that a row wants.
 
 use crate::bytes::{Named, cut, known, number, of_digits, put_bytes};
 use hash_keys::Hash;
@@ -50,8 +50,8 @@ fn is_status(status: u8, statuses: &str) -> bool {
     number(one) == usize::from(status) || number(other) == usize::from(status)
 }
 
-/// Whether a status is one of these, of which there are two at most with a bar between them, and its line was written, as
-/// far as there was room. Behind the statuses stands how the line ends.
+/// Whether a status is one of these, two at most with a bar between them, and its line was written, up to the room. Behind
+/// the statuses is the end of the line.
 pub fn is_told(
     alloc: Global,
     (status, line): (u8, &[u8]),

@@ -11,7 +11,7 @@ use tink::streaming_aead::{
 use tink::{Aead, Draws, Lent, Mac, Managers, Registry, SureSink, SureSource, TinkError};
 use tink_proto::{Bytes, KeyTemplate};
 
-/// What is done under a keyset.
+/// A task under a keyset.
 #[derive(Clone, Copy)]
 pub enum Task {
     /// A value is encrypted to a prefix, a nonce, the text and a tag, and decrypted.

@@ -31,7 +31,7 @@ fn draw_all(told: &mut Told, alloc: Global, registry: &Registry<Managers>) {
     }
 }
 
-/// What all rows tell.
+/// The answers of all rows.
 pub fn rows(alloc: Global) -> Told {
     let mut told = Told::new();
     match registry(alloc) {

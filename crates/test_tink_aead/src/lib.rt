@@ -8,7 +8,7 @@ mod template_tests;
 use std::alloc::Global;
 use test_util::Told;
 
-/// What all rows tell.
+/// The answers of all rows.
 pub fn rows(alloc: Global) -> Told {
     let mut told = Told::new();
     envelope_tests::envelopes_seal_open_and_refuse(alloc, &mut told);

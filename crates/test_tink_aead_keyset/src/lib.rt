@@ -7,7 +7,7 @@ mod master_tests;
 use std::alloc::Global;
 use test_util::Told;
 
-/// What all rows tell.
+/// The answers of all rows.
 pub fn rows(alloc: Global) -> Told {
     let mut told = Told::new();
     keyset_tests::texts_by_new_keys(alloc, &mut told);

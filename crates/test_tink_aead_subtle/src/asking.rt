@@ -1,4 +1,4 @@
-//! What is asked of an AEAD, and whether it does it.
+//! Requests to an AEAD, and whether it fulfils them.
 
 use std::alloc::Global;
 use test_util::{draws_of, gives, kind_of};
@@ -12,11 +12,11 @@ pub struct Sealed {
     pub sealed: &'static [u8],
 }
 
-/// What is asked of an AEAD.
+/// A request to an AEAD.
 pub enum Asked {
-    /// To encrypt the text by the first so many of the encrypted bytes as draws, of which so many are left.
+    /// To encrypt the text by the first encrypted bytes, this number of them, as draws. This number of them is left.
     Encrypt(usize, usize),
-    /// To decrypt the encrypted bytes without the last so many, with that data or their own, to the text.
+    /// To decrypt the encrypted bytes without this number of the last ones, with that data or their own, to the text.
     Decrypt(usize, Option<&'static [u8]>),
     /// To decrypt these bytes with that data, to nothing.
     Open(&'static [u8], &'static [u8]),

@@ -8,7 +8,7 @@ mod subtle_tests;
 use std::alloc::Global;
 use test_util::Told;
 
-/// What all rows tell.
+/// The answers of all rows.
 pub fn rows(alloc: Global) -> Told {
     let mut told = Told::new();
     composed_tests::encrypts_and_authenticates(alloc, &mut told);

@@ -13,7 +13,7 @@ mod task_tests;
 use std::alloc::Global;
 use test_util::Told;
 
-/// What all rows tell.
+/// The answers of all rows.
 pub fn rows(alloc: Global) -> Told {
     let mut told = Told::new();
     callers::callers_do_what_they_say(alloc, &mut told);

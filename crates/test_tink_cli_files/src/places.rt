@@ -1,4 +1,4 @@
-//! Calls into a place over memory under whose name a file stands, and what walks tables of them.
+//! Calls into a place over memory whose name a file has, and the walk over tables of them.
 
 ghost use Rattle.std.specs.Prelude.{◌≡◌, true};
 
@@ -18,7 +18,7 @@ pub trait Call {
 /// A call, how much room the draft has, and which file is shown, or how the call is refused.
 pub type Row<C> = (&'static str, C, usize, Result<&'static [u8], Kind>);
 
-/// A place with so much room under whose name a file stands.
+/// A place with this much room, whose name a file has.
 pub fn place_of(alloc: Global, room: usize) -> Option<MemPlace> {
     let shown = Vec::from_slice(alloc, BEFORE).ok()?;
     MemPlace::new(alloc, room, Some(shown)).ok()

@@ -32,7 +32,7 @@ fn written(
     }
 }
 
-/// The stream of the counted text of so many bytes.
+/// The stream of the counted text of this number of bytes.
 pub fn stream_of(alloc: Global, keyset: &[u8], count: usize) -> Result<Vec<u8>, TinkError> {
     let mut text = SureSource::new(counted(alloc, count)?);
     written(alloc, Command::Seal, keyset, &mut text)

@@ -7,7 +7,7 @@ mod tokens;
 use std::alloc::Global;
 use test_util::Told;
 
-/// What all rows tell.
+/// The answers of all rows.
 pub fn rows(alloc: Global) -> Told {
     let mut told = Told::new();
     daead::keyset_tests::keys_and_keysets_are_as_the_rows_say(alloc, &mut told);

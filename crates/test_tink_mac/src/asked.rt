@@ -17,13 +17,13 @@ pub enum Of {
     HmacKey,
 }
 
-/// What is asked.
+/// A request of a row.
 pub enum Asked {
     /// Whether this is the MAC's tag of a text: its key, the text and the tag.
     Tag(Of, &'static [u8], &'static [u8], &'static [u8]),
-    /// Whether there is a MAC of so many bytes 7.
+    /// Whether there is a MAC whose key has this number of bytes 7.
     New(Of, usize),
-    /// Whether a key of this format is made of these draws, of which so many are left, also of a refusal, and this is
+    /// Whether a key of this format is made of these draws, this number of them is left, also of a refusal, and this is
     /// its tag of `abc`.
     Make(Of, &'static [u8], &'static [u8], usize, &'static [u8]),
     /// Params of a key that is made: its hash, its size and that of its tags.
@@ -31,7 +31,7 @@ pub enum Asked {
     HmacParams(HashType, usize, usize),
 }
 
-/// A name, what is asked, and the answer.
+/// A name, a request, and the answer.
 pub type Row = (&'static str, Asked, Answer);
 
 /// The text of most rows.

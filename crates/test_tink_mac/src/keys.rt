@@ -1,4 +1,4 @@
-//! Keys of MACs: what builds, and what is made.
+//! Keys of MACs: which build, and which are made.
 
 use crate::asked::{ABC, Asked, Of, Row};
 use std::alloc::Global;

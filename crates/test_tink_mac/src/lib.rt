@@ -11,7 +11,7 @@ mod wrapped;
 use std::alloc::Global;
 use test_util::Told;
 
-/// What all rows tell.
+/// The answers of all rows.
 pub fn rows(alloc: Global) -> Told {
     let mut told = Told::new();
     keys::rows(alloc, &mut told);

@@ -27,13 +27,13 @@ pub enum Of {
     HmacKey,
 }
 
-/// What is asked.
+/// A request of a row.
 pub enum Asked {
     /// Whether the function of a key makes this of a text.
     Output(Of, &'static [u8], &'static [u8], &'static [u8]),
-    /// Whether a function of so many bytes 7 makes so many bytes of `abc`.
+    /// Whether a function whose key has this number of bytes 7 makes this number of bytes of `abc`.
     Length(Of, usize, usize),
-    /// Whether a key of this format is made of these draws, of which so many are left, also of a refusal, and its
+    /// Whether a key of this format is made of these draws, this number of them is left, also of a refusal, and its
     /// function makes this of `abc`.
     Make(Of, &'static [u8], &'static [u8], usize, &'static [u8]),
     /// Params of a key that is made: its hash and its size.
@@ -44,7 +44,7 @@ pub enum Asked {
     Code(&'static [u8], &'static [u8], &'static [u8]),
 }
 
-/// A name, what is asked, and the answer.
+/// A name, a request, and the answer.
 pub type Row = (&'static str, Asked, Answer);
 
 /// The text of most rows.

@@ -1,11 +1,11 @@
-//! Keys of functions: what builds, and what is made.
+//! Keys of functions: which build, and which are made.
 
 use crate::asked::{ABC, Asked, Of, Row};
 use std::alloc::Global;
 use test_util::{Answer, Told};
 use tink_io::Kind;
 
-/// Bytes of which each is its place.
+/// Bytes, each its own place.
 pub const COUNT: &[u8; 40] =
     b"\x01\x02\x03\x04\x05\x06\x07\x08\x09\x0a\x0b\x0c\x0d\x0e\x0f\x10\x11\x12\x13\x14\x15\x16\x17\x18\x19\x1a\x1b\x1c\x1d\x1e\x1f\x20\x21\x22\x23\x24\x25\x26\x27\x28";
 

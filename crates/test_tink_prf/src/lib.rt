@@ -12,7 +12,7 @@ mod vectors;
 use std::alloc::Global;
 use test_util::Told;
 
-/// What all rows tell.
+/// The answers of all rows.
 pub fn rows(alloc: Global) -> Told {
     let mut told = Told::new();
     keys::hmac_rows(alloc, &mut told);

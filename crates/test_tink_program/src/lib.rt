@@ -1,4 +1,4 @@
-//! Tests of tink_program, and of the crates below it that its commands stand on: tables of rows, and the calls that they
+//! Tests of tink_program, and of the crates below it that its commands use: tables of rows, and the calls that they
 //! make over sources and sinks in memory.
 #![tactic(auto)]
 

@@ -12,7 +12,7 @@ mod streams;
 mod tokens;
 
 /// The tables of that number, of a row a line. The line `ways:` before a table has the ways in which it is run: settings
-/// that stand behind each row, with semicolons between the ways. Behind the last tables there are none.
+/// that follow each row, with semicolons between the ways. Behind the last tables there are none.
 pub fn tables_of(number: usize) -> Option<&'static str> {
     let tables = match number {
         0 => names::TABLES,
