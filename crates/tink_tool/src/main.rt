@@ -5,7 +5,9 @@ use std::process::ExitCode;
 use tink_cli::run;
 use tink_io::{StdSink, write_line};
 use tink_system::trouble::status;
-use tink_unix::{Unix, occupy_standard_streams, words_of_process};
+use tink_unix::Unix;
+use tink_unix_names::standard::occupy_standard_streams;
+use tink_unix_names::words_of_process;
 
 fn main(rt: HostRuntime) -> ExitCode {
     occupy_standard_streams(&rt);

@@ -4,17 +4,17 @@ ghost use Rattle.std.specs.Prelude.{◌≡◌, true, IfOk, IfErr};
 ghost use Rattle.tink_system.specs.States.{replaces_by};
 ghost use Rattle.tink_unix.specs.OfStatus.{IsOfStatus};
 
-use crate::leftovers::{Cleared, MOST_RUNS, clear, names_this, sweep};
-use crate::names::{Which, draft_name, follow, parts_of, text_of};
-use crate::notes::note;
 use crate::output::Written;
-use crate::reasons::{NONE, NOT_UTF8, code_of};
 use crate::refusals::{unwritable, unwritten};
 use std::fs;
 use std::fs::{File, Metadata, OpenFile, OpenOptions, TryLockError};
 use std::os::unix::fs::{MetadataExt, OpenOptionsExt, fchown};
 use tink_io::Kind;
 use tink_system::{How, Trouble};
+use tink_unix_names::leftovers::{Cleared, MOST_RUNS, clear, names_this, sweep};
+use tink_unix_names::names::{Which, draft_name, follow, parts_of, text_of};
+use tink_unix_names::notes::note;
+use tink_unix_names::reasons::{NONE, NOT_UTF8, code_of};
 
 // At most this many bytes wait before they are written.
 const WAITING: usize = 32_768;

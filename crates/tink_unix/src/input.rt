@@ -4,17 +4,17 @@ ghost use Rattle.std.specs.Prelude.{◌≡◌, None, ⊤, IfErr};
 ghost use Rattle.std.specs.Io.{ReadsAtMost};
 ghost use Rattle.tink_unix.specs.OfStatus.{IsOfStatus};
 
-use crate::meter::Meter;
-use crate::names::text_of;
-use crate::reasons::{NONE, TOO_MANY, code_of};
 use crate::refusals::{unread, unreadable};
-use crate::standard::{Standard, standard_of};
 use std::fs::{File, OpenFile};
 use std::io;
 use std::io::{ErrorKind, Read};
 use std::rt::Stdin;
 use tink_io::{Failed, Source};
 use tink_system::Trouble;
+use tink_unix_names::meter::Meter;
+use tink_unix_names::names::text_of;
+use tink_unix_names::reasons::{NONE, TOO_MANY, code_of};
+use tink_unix_names::standard::{Standard, standard_of};
 
 // How often a call that was interrupted is made again.
 const TRIES: usize = 1_000;

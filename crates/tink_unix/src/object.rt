@@ -3,9 +3,6 @@
 ghost use Rattle.std.specs.Prelude.{◌≡◌, ◌≤◌, ◌<◌, ◌-◌, ⊤, length, None, IfOk, IfErr};
 ghost use Rattle.tink_unix.specs.OfStatus.{IsOfStatus};
 
-use crate::meter::Meter;
-use crate::names::text_of;
-use crate::reasons::{CUT_SHORT, NONE, TOO_MANY, code_of};
 use crate::refusals::{unread, unreadable};
 use std::fs;
 use std::fs::{File, OpenFile};
@@ -14,6 +11,9 @@ use std::os::unix::fs::FileExt;
 use tink_io::Failed;
 use tink_range::ReadAt;
 use tink_system::Trouble;
+use tink_unix_names::meter::Meter;
+use tink_unix_names::names::text_of;
+use tink_unix_names::reasons::{CUT_SHORT, NONE, TOO_MANY, code_of};
 
 // How often a call that was interrupted is made again.
 const TRIES: usize = 1_000;

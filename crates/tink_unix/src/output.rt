@@ -3,12 +3,12 @@
 ghost use Rattle.std.specs.Prelude.{◌≡◌, ◌<◌, None, ⊤, length, IfOk};
 ghost use Rattle.std.specs.Io.{WritesAtMost};
 
-use crate::reasons::{NONE, TOO_MANY, WROTE_NOTHING, code_of};
 use std::fs::File;
 use std::io;
 use std::io::{ErrorKind, Write};
 use std::rt::{Stderr, Stdout};
 use tink_io::{Failed, Sink};
+use tink_unix_names::reasons::{NONE, TOO_MANY, WROTE_NOTHING, code_of};
 
 // How often a call that was interrupted is made again.
 const TRIES: usize = 1_000;

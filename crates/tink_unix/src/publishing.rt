@@ -3,14 +3,14 @@
 ghost use Rattle.std.specs.Prelude.{◌≡◌, [], None, OnOk};
 
 use crate::draft::Draft;
-use crate::leftovers::{is_name_of, names_this};
-use crate::names::folder_of;
-use crate::notes::note;
-use crate::reasons::{DRAFT_GONE, code_of, reason_of_errno};
 use std::fs;
 use std::fs::{File, OpenFile, OpenOptions, Permissions};
 use std::os::unix::fs::{MetadataExt, OpenOptionsExt, PermissionsExt};
 use tink_io::{Failed, Gathered, Place, Sink};
+use tink_unix_names::leftovers::{is_name_of, names_this};
+use tink_unix_names::names::folder_of;
+use tink_unix_names::notes::note;
+use tink_unix_names::reasons::{DRAFT_GONE, code_of, reason_of_errno};
 
 const EPERM: i32 = 1;
 

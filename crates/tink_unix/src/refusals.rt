@@ -2,9 +2,9 @@
 
 ghost use Rattle.tink_unix.specs.OfStatus.{IsOfStatus};
 
-use crate::reasons::{NOT_UTF8, reason_of_errno};
 use tink_io::Kind;
 use tink_system::Trouble;
+use tink_unix_names::reasons::{NOT_UTF8, reason_of_errno};
 
 const ENOENT: i32 = 2;
 

@@ -7,12 +7,9 @@ ghost use Rattle.tink_unix.specs.Unknown.{unknown_state};
 use crate::draft;
 use crate::draft::Draft;
 use crate::input::Input;
-use crate::names::{folder_of, follow, parts_of, text_of};
 use crate::object::Object;
 use crate::output::{Stream, Way, Written};
-use crate::reasons::{code_of, reason_of_errno};
 use crate::refusals::{unreadable, unwritable, unwritten};
-use crate::standard::{Standard, standard_of};
 use std::alloc::Global;
 use std::fs;
 use std::fs::{Metadata, OpenFile, OpenOptions};
@@ -21,6 +18,9 @@ use std::os::unix::fs::MetadataExt;
 use std::random::RandomSource;
 use tink_io::{Draws, Kind, Source};
 use tink_system::{End, How, System, Trouble};
+use tink_unix_names::names::{folder_of, follow, parts_of, text_of};
+use tink_unix_names::reasons::{code_of, reason_of_errno};
+use tink_unix_names::standard::{Standard, standard_of};
 
 // This many bytes are read at once.
 const PART: usize = 8_192;
