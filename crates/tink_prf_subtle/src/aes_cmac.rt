@@ -1,6 +1,6 @@
 //! A pseudorandom function by CMAC (SP 800-38B) over AES (FIPS 197).
 
-ghost use Rattle.std.specs.Prelude.{◌≡◌, false, length, MatchOption, MatchResult};
+ghost use Rattle.std.specs.Prelude.{◌≡◌, false, length, IsTrue, MatchOption};
 ghost use Rattle.tink_io.specs.Told.{Tells};
 ghost use Rattle.tink_prf_subtle.specs.AesCmac.{aes_cmac_key, aes_cmac_output, aes_cmac_output_told, aes_cmac_params, cmac_of, is_aes_key_size};
 ghost use Rattle.tink_prf_subtle.specs.AesVariants.{IsKeyed, FitsVariant, variant_key};
@@ -8,13 +8,16 @@ ghost use Rattle.tink_prf_subtle.specs.AesVariants.{IsKeyed, FitsVariant, varian
 use aes_block::{Aes128, Aes192, Aes256};
 use cipher::KeyInit;
 use hash_keys::cmac_into;
-use std::alloc::{AllocError, Global};
+use std::alloc::Global;
 use std::marker::Model;
 use tink_io::{Kind, TinkError};
 use tink_primitives::{CloneIn, Prf};
 use tink_proto::Bytes;
 
 const RECOMMENDED_KEY_SIZE: usize = 32;
+
+// The bytes of the longest key of AES.
+const MOST_KEY_SIZE: usize = 32;
 
 const AES_BLOCK_SIZE_IN_BYTES: usize = 16;
 
@@ -56,34 +59,26 @@ impl AesVariant {
         }
         out
     }
-
-    fn clone(&self) -> Result<AesVariant, AllocError>
-        ensures { MatchResult result (λ copy. copy ≡ self.now) (λ _. ⊥) }
-    {
-        Ok(match self {
-            AesVariant::Aes128(cipher) => AesVariant::Aes128(cipher.clone()?),
-            AesVariant::Aes192(cipher) => AesVariant::Aes192(cipher.clone()?),
-            AesVariant::Aes256(cipher) => AesVariant::Aes256(cipher.clone()?),
-        })
-    }
 }
 
 /// AES-CMAC under a key of 16, 24 or 32 bytes, which contracts see as the key. An output is the first bytes of the CMAC
-/// of the input (SP 800-38B, 6.2), at most 16.
+/// of the input (SP 800-38B, 6.2), at most 16. Each call makes the key's schedule, which has 2 KiB.
 #[derive(Drop)]
 pub struct AesCmacPrf {
-    cipher: AesVariant,
+    // The key, and zeros behind it.
+    bytes: [u8; MOST_KEY_SIZE],
+    size: usize,
 }
 
 impl Model for AesCmacPrf {
-    ghost use Rattle.std.specs.Prelude.{List, ℕ};
-    ghost use Rattle.tink_prf_subtle.specs.AesVariants.{FitsVariant, variant_key};
+    ghost use Rattle.std.specs.Prelude.{List, ℕ, IsTrue, take};
+    ghost use Rattle.tink_prf_subtle.specs.AesCmac.{is_aes_key_size};
 
     ghost Value = { List ℕ };
 
-    ghost view = { λ prf. variant_key prf.cipher };
+    ghost view = { λ prf. take prf.size prf.bytes };
 
-    ghost invariant = { λ prf. FitsVariant prf.cipher };
+    ghost invariant = { λ prf. IsTrue (is_aes_key_size prf.size) };
 }
 
 impl AesCmacPrf {
@@ -94,10 +89,42 @@ impl AesCmacPrf {
     pub fn new(_alloc: Global, key: &[u8]) -> Result<AesCmacPrf, TinkError>
         ensures { Tells result (aes_cmac_key key.now) }
     {
-        match AesVariant::new(key) {
-            Some(cipher) => Ok(AesCmacPrf { cipher }),
-            None => Err(TinkError::new(Kind::BadKeySize)),
+        match key.len() {
+            16 | 24 | 32 => Ok(AesCmacPrf::of_bytes(key)),
+            _ => Err(TinkError::new(Kind::BadKeySize)),
         }
+    }
+
+    // AES-CMAC under a key of one of the sizes.
+    #[tactic(auto, using(std::proofs::lemmas::Bool::Decides::nat_tests))]
+    fn of_bytes(key: &[u8]) -> AesCmacPrf
+        requires { IsTrue (is_aes_key_size (length key.now)) }
+        ensures { result ≡ key.now }
+    {
+        let mut bytes = [0u8; MOST_KEY_SIZE];
+        bytes[..key.len()].copy_from_slice(key);
+        AesCmacPrf {
+            bytes,
+            size: key.len(),
+        }
+    }
+
+    // The cipher under the key.
+    #[tactic(auto, using(std::proofs::lemmas::Bool::Decides::nat_tests))]
+    fn cipher(&self) -> AesVariant
+        ensures { IsKeyed result self.now }
+    {
+        match AesVariant::new(&self.bytes[..self.size]) {
+            Some(cipher) => cipher,
+            None => unreachable!(),
+        }
+    }
+
+    // The CMAC of a text.
+    fn cmac(&self, text: &[u8]) -> [u8; 16]
+        ensures { result ≡ cmac_of self.now text.now }
+    {
+        self.cipher().cmac(text)
     }
 }
 
@@ -117,7 +144,8 @@ pub fn validate_aes_cmac_prf_params(key_size: usize) -> Result<(), TinkError>
 impl CloneIn for AesCmacPrf {
     fn try_clone(&self, _alloc: Global) -> Result<Self, TinkError> {
         Ok(AesCmacPrf {
-            cipher: self.cipher.clone()?,
+            bytes: self.bytes,
+            size: self.size,
         })
     }
 }
@@ -135,7 +163,7 @@ impl Prf for AesCmacPrf {
             return Err(TinkError::new(Kind::OutputTooLong));
         }
         let mut out = vec![in alloc; 0u8; output_length]?;
-        let code = self.cipher.cmac(input);
+        let code = self.cmac(input);
         out.copy_from_slice(&code[..output_length]);
         Ok(Bytes::from_vec(out))
     }

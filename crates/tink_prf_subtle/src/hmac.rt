@@ -21,8 +21,8 @@ const MIN_HMAC_KEY_SIZE_IN_BYTES: usize = 16;
 pub struct HmacPrf {
     hash: Hash,
     key: Bytes,
-    // of that key under the hash
-    mac: HmacKey,
+    // Of that key under the hash. It has some 450 bytes: on the heap, so that a primitive of any sort is small.
+    mac: Box<HmacKey>,
 }
 
 impl Model for HmacPrf {
@@ -33,7 +33,7 @@ impl Model for HmacPrf {
 
     ghost view = { λ prf. record { hash = prf.hash; key = prf.key } };
 
-    ghost invariant = { λ prf. IsHmacKey prf.mac prf.hash prf.key };
+    ghost invariant = { λ prf. IsHmacKey prf.mac.value prf.hash prf.key };
 }
 
 impl HmacPrf {
@@ -50,7 +50,7 @@ impl HmacPrf {
         Ok(HmacPrf {
             hash: func.hash,
             key: Bytes::from_slice(alloc, key)?,
-            mac: HmacKey::new(func.hash, key),
+            mac: Box::new(alloc, HmacKey::new(func.hash, key))?,
         })
     }
 }
@@ -73,10 +73,11 @@ pub fn validate_hmac_prf_params(hash: HashType, key_size: usize) -> Result<(), T
 
 impl CloneIn for HmacPrf {
     fn try_clone(&self, alloc: Global) -> Result<Self, TinkError> {
+        let copied = HmacKey::clone(&self.mac)?;
         Ok(HmacPrf {
             hash: self.hash,
             key: self.key.try_clone(alloc)?,
-            mac: self.mac.clone()?,
+            mac: Box::new(alloc, copied)?,
         })
     }
 }

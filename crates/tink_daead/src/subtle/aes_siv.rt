@@ -1,6 +1,6 @@
 //! AES-SIV (RFC 5297).
 
-ghost use Rattle.std.specs.Prelude.{◌≡◌, ◌+◌, ◌↔◌, false, length, IsTrue, MatchOption, MatchResult};
+ghost use Rattle.std.specs.Prelude.{◌≡◌, ◌+◌, ◌↔◌, false, length, IsTrue, MatchOption};
 ghost use Rattle.standards.specs.AesKeys.{aes};
 ghost use Rattle.standards.specs.Siv.{s2v};
 ghost use Rattle.tink_io.specs.Told.{Answers, Tells};
@@ -11,7 +11,7 @@ ghost use Rattle.tink_daead.specs.SivCiphers.{whole_key, FitsCiphers, AreKeyed};
 
 use crate::subtle::siv::{SIV_SIZE, SivPair, pair_of};
 use aes_block::{Aes128, Aes256};
-use std::alloc::{AllocError, Global};
+use std::alloc::Global;
 use std::marker::Model;
 use tink_io::{Kind, TinkError};
 use tink_primitives::{CloneIn, DeterministicAead};
@@ -82,41 +82,29 @@ impl SivCiphers {
         }
         Ok(Bytes::from_vec(text))
     }
-
-    fn clone(&self) -> Result<SivCiphers, AllocError>
-        ensures { MatchResult result (λ copy. copy ≡ self.now) (λ _. ⊥) }
-    {
-        Ok(match self {
-            SivCiphers::Aes128(pair) => SivCiphers::Aes128(SivPair {
-                mac: pair.mac.clone()?,
-                counter: pair.counter.clone()?,
-            }),
-            SivCiphers::Aes256(pair) => SivCiphers::Aes256(SivPair {
-                mac: pair.mac.clone()?,
-                counter: pair.counter.clone()?,
-            }),
-        })
-    }
 }
 
 /// AES-SIV (RFC 5297) under a key of 32 or 64 bytes, which contracts see as the key. The first half is the key of CMAC,
 /// the second that of the counter mode. What it makes of a text is V, of 16 bytes, and the ciphertext.
 ///
-/// Equal texts with equal associated data give equal bytes, and who sees two ciphertexts sees that.
+/// Equal texts with equal associated data give equal bytes, and who sees two ciphertexts sees that. Each call makes the
+/// schedules of the halves, which have 4 KiB.
 #[derive(Drop)]
 pub struct AesSiv {
-    ciphers: SivCiphers,
+    // The key, and zeros behind it.
+    bytes: [u8; AES_SIV_KEY_SIZE],
+    size: usize,
 }
 
 impl Model for AesSiv {
-    ghost use Rattle.std.specs.Prelude.{List, ℕ};
-    ghost use Rattle.tink_daead.specs.SivCiphers.{whole_key, FitsCiphers};
+    ghost use Rattle.std.specs.Prelude.{List, ℕ, IsTrue, take};
+    ghost use Rattle.tink_daead.specs.AesSiv.{is_siv_key_size};
 
     ghost Value = { List ℕ };
 
-    ghost view = { λ a. whole_key a.ciphers };
+    ghost view = { λ a. take a.size a.bytes };
 
-    ghost invariant = { λ a. FitsCiphers a.ciphers };
+    ghost invariant = { λ a. IsTrue (is_siv_key_size a.size) };
 }
 
 impl AesSiv {
@@ -127,9 +115,34 @@ impl AesSiv {
     pub fn new(_alloc: Global, key: &[u8]) -> Result<AesSiv, TinkError>
         ensures { Tells result (siv_key key.now) }
     {
-        match SivCiphers::new(key) {
-            Some(ciphers) => Ok(AesSiv { ciphers }),
-            None => Err(TinkError::new(Kind::BadKeySize)),
+        match key.len() {
+            32 | 64 => Ok(AesSiv::of_bytes(key)),
+            _ => Err(TinkError::new(Kind::BadKeySize)),
+        }
+    }
+
+    // The AEAD under a key of one of the sizes.
+    #[tactic(auto, using(std::proofs::lemmas::Bool::Decides::nat_tests))]
+    fn of_bytes(key: &[u8]) -> AesSiv
+        requires { IsTrue (is_siv_key_size (length key.now)) }
+        ensures { result ≡ key.now }
+    {
+        let mut bytes = [0u8; AES_SIV_KEY_SIZE];
+        bytes[..key.len()].copy_from_slice(key);
+        AesSiv {
+            bytes,
+            size: key.len(),
+        }
+    }
+
+    // The ciphers under the halves of the key.
+    #[tactic(auto, using(std::proofs::lemmas::Bool::Decides::nat_tests))]
+    fn ciphers(&self) -> SivCiphers
+        ensures { AreKeyed result self.now }
+    {
+        match SivCiphers::new(&self.bytes[..self.size]) {
+            Some(ciphers) => ciphers,
+            None => unreachable!(),
         }
     }
 }
@@ -137,7 +150,8 @@ impl AesSiv {
 impl CloneIn for AesSiv {
     fn try_clone(&self, _alloc: Global) -> Result<Self, TinkError> {
         Ok(AesSiv {
-            ciphers: self.ciphers.clone()?,
+            bytes: self.bytes,
+            size: self.size,
         })
     }
 }
@@ -159,7 +173,8 @@ impl DeterministicAead for AesSiv {
         additional_data: &[u8],
     ) -> Result<Bytes, TinkError> {
         let mut out = vec![in alloc; 0u8; SIV_SIZE + plaintext.len()]?;
-        self.ciphers.seal_into(additional_data, plaintext, &mut out);
+        self.ciphers()
+            .seal_into(additional_data, plaintext, &mut out);
         Ok(Bytes::from_vec(out))
     }
 
@@ -174,7 +189,7 @@ impl DeterministicAead for AesSiv {
         ciphertext: &[u8],
         additional_data: &[u8],
     ) -> Result<Bytes, TinkError> {
-        self.ciphers.decrypt(alloc, ciphertext, additional_data)
+        self.ciphers().decrypt(alloc, ciphertext, additional_data)
     }
 
     ghost encrypts_told = { λ _ _ _. tt };

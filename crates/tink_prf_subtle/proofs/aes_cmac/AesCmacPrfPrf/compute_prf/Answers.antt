@@ -10,5 +10,5 @@ returns c =
     let n = c.args.output_length in
     let input = c.args.input.now in
     let code = cmac_of c.args.self.now input in
-    let is = c.from_vec.ensures ∙ c.copy_from_slice.ensures.items ∙ ap (take n) (c.cmac-code.ensures ∙ ap (λ (k : List ℕ). cmac_of k input) c.self.view_is) in
+    let is = c.from_vec.ensures ∙ c.copy_from_slice.ensures.items ∙ ap (take n) c.cmac-code.ensures in
     record { answer = ap (λ (b : Bool). if b then Err OutputTooLong else Ok (take n code)) (le-ltb 16 n c.if-output_length-gt-AES_BLOCK_SIZE_IN_BYTES.false) ∙ ap Ok (sym is) }
