@@ -8,7 +8,7 @@ import random
 import subprocess
 import time
 
-from files_lib import PROGRAM, TEXT, check, drafts, known_fault, mode, read, run, tink, write
+from files_lib import PROGRAM, TEXT, check, drafts, mode, read, run, tink, write
 
 
 def streams():
@@ -82,10 +82,13 @@ def rewraps():
     tink(*rewrap, "-k", "keys.json", "-t", "prose", status=13, says="prose: bad keyset")
     tink(*rewrap, "-k", "prose", "-t", "later.json", status=13, says="prose: bad keyset")
     tink(*rewrap, "-k", "keys.json", "-t", "broken.json", status=30, says="broken.json: bad json")
-    wrong = run(*rewrap, "-k", "keys.json", "-t", "aead.json")
-    check(wrong.returncode == 18, f"a rewrap under keys for another use: status {wrong.returncode}")
-    known_fault(b"aead.json: wrong primitive" in wrong.stderr, f"the message names the old keys, not aead.json: {wrong.stderr}")
+    tink(*rewrap, "-k", "keys.json", "-t", "aead.json", status=18, says="aead.json: wrong primitive")
     tink(*rewrap, "-k", "aead.json", "-t", "later.json", status=18, says="aead.json: wrong primitive")
+    tink("new", "HMAC_SHA256_128BITTAG", "-o", "mac.json")
+    tink(*rewrap, "-k", "aead.json", "-t", "mac.json", status=18, says="aead.json: wrong primitive")
+    write("unkeyed", b"")
+    tink(*rewrap, "-k", "keys.json", "-t", "unkeyed", status=14, says="unkeyed: ")
+    tink(*rewrap, "-k", "unkeyed", "-t", "later.json", status=14, says="unkeyed: ")
     tink(*rewrap, "-k", "keys.json", "-t", "none", status=11, says="none: there is no such file")
     tink(*rewrap, "-k", "later.json", "-t", "keys.json", status=21, says="old: no key of later.json opens this stream")
     tink("rewrap", "-k", "keys.json", "-t", "later.json", "-o", "moved", "none", status=11, says="none: there is no such file")

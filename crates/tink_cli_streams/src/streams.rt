@@ -14,8 +14,9 @@ use tink_cli_jobs::keys::keyset_of;
 use tink_cli_jobs::protecting::keyset_for;
 use tink_cli_jobs::{Job, job_of};
 use tink_cli_words::{Action, Line};
-use tink_io::Sink;
+use tink_io::{Kind, Sink};
 use tink_proto::Bytes;
+use tink_run::load::load;
 use tink_run::report::Command;
 use tink_system::{End, System, Trouble};
 
@@ -121,7 +122,44 @@ fn rewrap_to<'w, Y: System, K: Sink>(
         to_aad: job.new_aad,
     };
     spare_terminal(system, task, job)?;
-    perform(alloc, system, task, keyset.as_slice(), job, sink)
+    match perform(alloc, system, task, keyset.as_slice(), job, sink) {
+        Ok(()) => Ok(()),
+        Err(trouble) => Err(blamed(alloc, keyset.as_slice(), job, trouble)),
+    }
+}
+
+// The error of a move, and the file that it is of: that of the new keys, if the first keyset loads.
+fn blamed<'w>(alloc: Global, keyset: &[u8], job: &Job<'w>, trouble: Trouble<'w>) -> Trouble<'w>
+    ensures { trouble_status result ≡ trouble_status trouble.entry }
+{
+    match (trouble, job.new_file()) {
+        (Trouble::Refused(_, kind), Some(file)) if is_of_keys(kind) && loads(alloc, keyset) => {
+            Trouble::Refused(file, kind)
+        }
+        _ => trouble,
+    }
+}
+
+// Whether an error is of a keyset.
+fn is_of_keys(kind: Kind) -> bool {
+    match kind {
+        Kind::BadKeyset
+        | Kind::InvalidKeyset
+        | Kind::UnsupportedKeyType
+        | Kind::InvalidKey
+        | Kind::NoPrimary
+        | Kind::WrongPrimitive
+        | Kind::UnsupportedHash => true,
+        _ => false,
+    }
+}
+
+// Whether a keyset loads.
+fn loads(alloc: Global, keyset: &[u8]) -> bool {
+    match load(alloc, keyset) {
+        Ok(_) => true,
+        Err(_) => false,
+    }
 }
 
 // What a command makes of its input under its own keys; a move is to others.
