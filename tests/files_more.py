@@ -114,6 +114,16 @@ def standard_keys():
         ):
             done = run(*words, stdin=data)
             check(done.returncode in (2, 11) and b"standard input" in done.stderr and not os.path.exists("both"), f"{words}: {done}")
+        # It is refused before anything is read, whatever is there: the files that these lines name do not exist.
+        for words in (
+            ("info", "-k", "-", "--master", "-", "none"),
+            ("info", "-k", "-", "--master", "-", "-"),
+            ("check", "-k", "-", "--master", "-", "none"),
+            ("range", "-k", "-", "--master", "-", "--start", "0", "--length", "1", "none"),
+            ("rewrap", "-k", "none", "-t", "none", "--master", "-", "none"),
+        ):
+            done = run(*words, stdin=b"")
+            check(done.returncode == 11 and b"tink: standard input: " in done.stderr, f"{words}: {done}")
         for action in ("wrap", "unwrap"):
             done = run(action, "-k", "-", "-o", "both", "-", stdin=read("master.json"))
             check(done.returncode != 0 and done.stderr.startswith(b"tink: ") and not os.path.exists("both"), f"{action}: {done}")

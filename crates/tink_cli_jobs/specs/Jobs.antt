@@ -36,6 +36,11 @@ pub record IsJob (line : LineRead) (job : Job) : Type 0 where
   pub forced : job.is_forced ≡ line.force
   pub keeps : job.keeps_output ≡ line.no_clobber
 
+-- the job of a line, and none exactly if it names no file of keys
+abbrev pub IsJobOf : LineRead → Option Job → Type 0
+IsJobOf line (Some job) = IsJob line job
+IsJobOf line None = line.keys ≡ None
+
 -- The keyset of the words: that of their file of keys, under their master.
 pub record IsKeysetOf (line : LineRead) (s : SystemState) (name : Option (List ℕ)) (keyset : List ℕ) : Type 0 where
   pub file : List ℕ

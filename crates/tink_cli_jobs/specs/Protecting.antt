@@ -1,9 +1,11 @@
 -- Files of keys that a command does not write, and what it reads from standard input.
-use Rattle.std.specs.Prelude.{◌≡◌, ◌&&◌, ◌||◌, ℕ, List, Bool, Option, Some, None, true, false, codes, option_map}
+use Rattle.std.specs.Prelude.{◌≡◌, ◌⊎◌, ◌&&◌, ◌||◌, ℕ, List, Bool, Option, Some, None, true, false, codes, option_map}
 use Rattle.tink_cli_words.specs.LineRead.{LineRead}
 use Rattle.tink_cli_words.specs.Lines.{is}
 use Rattle.tink_system.specs.States.{SystemState}
-use Rattle.tink_cli_jobs.specs.Loading.{named}
+use Rattle.tink_system.specs.Statuses.{trouble_status}
+use Rattle.tink_system.specs.declared.trouble.Trouble.{Trouble}
+use Rattle.tink_cli_jobs.specs.Loading.{Fails, keyset_of, named}
 use Rattle.tink_cli_jobs.specs.declared.job.Job.{Job}
 
 -- the output is not this file
@@ -49,6 +51,31 @@ are_two true false master new_keys = master || new_keys
 are_two false true master new_keys = master || new_keys
 are_two false false master new_keys = master && new_keys
 
--- whether two of the names of a job are standard input
+abbrev pub has_some : Option (List ℕ) → Bool
+has_some None = false
+has_some (Some word) = true
+
+-- whether a master is standard input and is read for two files of keys
+abbrev pub is_shared : Option (List ℕ) → Option (List ℕ) → Bool
+is_shared master new_keys = is_input master && has_some new_keys
+
+-- whether standard input is named for two things: the input, the file of keys, its master and the new file of keys
+abbrev pub reads_twice_by : Option (List ℕ) → Option (List ℕ) → Option (List ℕ) → Option (List ℕ) → Bool
+reads_twice_by input keys master new_keys = are_two (has_none input) (is_input keys) (is_input master) (is_input new_keys) || is_shared master new_keys
+
 abbrev pub reads_twice : Job → Bool
-reads_twice job = are_two (has_none (option_map (λ n. n.now) job.input)) (is_input (Some job.keys.keys.now)) (is_input (option_map (λ n. n.now) job.keys.master)) (is_input (option_map (λ w. w.keys.now) job.new_keys))
+reads_twice job = reads_twice_by (option_map (λ n. n.now) job.input) (Some job.keys.keys.now) (option_map (λ n. n.now) job.keys.master) (option_map (λ w. w.keys.now) job.new_keys)
+
+-- the same of the words of a command
+abbrev pub names_twice : LineRead → Bool
+names_twice line = reads_twice_by (named line.first) line.keys line.master line.to
+
+-- why a job that reads standard input for one thing has no keyset: its output is one of its files of keys, or the keyset is not
+-- loaded
+abbrev pub HasNoKeyset : SystemState → Job → ℕ → ℕ → Trouble → Type 0
+HasNoKeyset s job before now t =
+    ((trouble_status t ≡ 12) × (s.is_known ≡ true → AreSparedBy s job → ⊥)) ⊎ Fails s before now (keyset_of s job.keys) t
+
+-- why a job has no keyset
+abbrev pub IsNotFor : SystemState → Job → ℕ → ℕ → Trouble → Type 0
+IsNotFor s job before now t = ((trouble_status t ≡ 11) × (reads_twice job ≡ true)) ⊎ HasNoKeyset s job before now t

@@ -1,7 +1,7 @@
 //! What the words of a command over a stream or a token say.
 
-ghost use Rattle.std.specs.Prelude.{◌≡◌, IfSome, option_map};
-ghost use Rattle.tink_cli_jobs.specs.Jobs.{IsJob, IsKeyWords, data_of};
+ghost use Rattle.std.specs.Prelude.{◌≡◌, option_map};
+ghost use Rattle.tink_cli_jobs.specs.Jobs.{IsJobOf, IsKeyWords, data_of};
 ghost use Rattle.tink_cli_jobs.specs.Loading.{named};
 ghost use Rattle.tink_system.specs.Statuses.{refusal_status, trouble_status};
 
@@ -30,9 +30,9 @@ pub struct Job<'w> {
     pub keeps_output: bool,
 }
 
-/// What the words of a command say; none without a file of keys.
+/// What the words of a command say; none exactly without a file of keys.
 pub fn job_of<'w>(line: &Line<'w>) -> Option<Job<'w>>
-    ensures { IfSome result (IsJob line.now) }
+    ensures { IsJobOf line.now result }
 {
     let Some(keys) = line.keys() else {
         return None;

@@ -1,8 +1,8 @@
 //! The file that is written is none of the files of keys that are needed to read it, and standard input is read for one thing.
 
-ghost use Rattle.std.specs.Prelude.{◌≡◌, ◌≤◌, false, true, IfErr, IfOk, OnOk, Some, option_map};
+ghost use Rattle.std.specs.Prelude.{◌≡◌, ◌≤◌, false, true, IfErr, IfOk, OnErr, OnOk, Some, option_map};
 ghost use Rattle.tink_cli_jobs.specs.Loading.{Fails, Gives, keyset_of};
-ghost use Rattle.tink_cli_jobs.specs.Protecting.{AreSparedBy, AreSparedOthers, Differ, are_two, is_input, reads_twice};
+ghost use Rattle.tink_cli_jobs.specs.Protecting.{AreSparedBy, AreSparedOthers, Differ, HasNoKeyset, IsNotFor, are_two, has_none, has_some, is_input, is_shared, reads_twice};
 ghost use Rattle.tink_system.specs.Statuses.{trouble_status};
 
 use crate::job::{Job, named};
@@ -14,7 +14,7 @@ use tink_system::{System, Trouble};
 /// The keyset of a job whose output is none of its files of keys, and which reads standard input for one thing alone.
 ///
 /// # Errors
-/// Those of `spare_input`, `spare_keys` and `keyset_of`.
+/// Those of `spare_input`, `spare_keys` and `keyset_of`, each with its cause.
 pub fn keyset_for<'w, Y: System>(
     alloc: Global,
     system: &mut Y,
@@ -23,6 +23,7 @@ pub fn keyset_for<'w, Y: System>(
     ensures loaded { IfOk result (λ keyset. Gives (Y.state system.old) (keyset_of (Y.state system.old) job.now.keys) keyset) }
     ensures spared { OnOk result ((Y.state system.old).is_known ≡ true → AreSparedBy (Y.state system.old) job.now) }
     ensures once { OnOk result (reads_twice job.now ≡ false) }
+    ensures refused { IfErr result (IsNotFor (Y.state system.old) job.now (Y.faults system.old) (Y.faults system.new)) }
     ensures state { Y.state system.new ≡ Y.state system.old }
     ensures later { Y.faults system.old ≤ Y.faults system.new }
 {
@@ -40,6 +41,7 @@ fn spared_keyset<'w, Y: System>(
 ) -> Result<Bytes, Trouble<'w>>
     ensures loaded { IfOk result (λ keyset. Gives (Y.state system.old) (keyset_of (Y.state system.old) job.now.keys) keyset) }
     ensures spared { OnOk result ((Y.state system.old).is_known ≡ true → AreSparedBy (Y.state system.old) job.now) }
+    ensures refused { IfErr result (HasNoKeyset (Y.state system.old) job.now (Y.faults system.old) (Y.faults system.new)) }
     ensures state { Y.state system.new ≡ Y.state system.old }
     ensures later { Y.faults system.old ≤ Y.faults system.new }
 {
@@ -52,25 +54,34 @@ fn spared_keyset<'w, Y: System>(
 /// Refuses a job that reads standard input for two things, for example for the keys and for a text.
 ///
 /// # Errors
-/// Status 11.
+/// Status 11, exactly then.
 pub fn spare_input<'w>(job: &Job<'w>) -> Result<(), Trouble<'w>>
     ensures once { OnOk result (reads_twice job.now ≡ false) }
     ensures refused { IfErr result (λ t. trouble_status t ≡ 11) }
+    ensures cause { OnErr result (reads_twice job.now ≡ true) }
 {
     let is_twice = reads_twice(job);
     if is_twice {
         return Err(Trouble::Unusable(
             b"standard input",
-            "it has the keys and cannot have the input too: give a file for one of them",
+            "it is named for two things and can be read for one: give a file for the other",
             11,
         ));
     }
     Ok(())
 }
 
-// Whether two of the names of a job are standard input.
+// Whether standard input is named for two things.
 fn reads_twice(job: &Job<'_>) -> bool
     ensures { result ≡ reads_twice job.now }
+{
+    names_two(job) || is_shared(job.keys.master, job.new_file())
+}
+
+// Whether two of the names of a job are standard input.
+fn names_two(job: &Job<'_>) -> bool
+    ensures { result ≡ are_two (has_none (option_map (λ n. n.now) job.now.input)) (is_input (Some job.now.keys.keys.now))
+        (is_input (option_map (λ n. n.now) job.now.keys.master)) (is_input (option_map (λ w. w.keys.now) job.now.new_keys)) }
 {
     are_two(
         job.input.is_none(),
@@ -78,6 +89,23 @@ fn reads_twice(job: &Job<'_>) -> bool
         is_input(job.keys.master),
         is_input(job.new_file()),
     )
+}
+
+// Whether a master is standard input and is read for two files of keys.
+fn is_shared(master: Option<&[u8]>, new_keys: Option<&[u8]>) -> bool
+    ensures { result ≡ is_shared (option_map (λ n. n.now) master.entry) (option_map (λ n. n.now) new_keys.entry) }
+{
+    is_input(master) && has_some(new_keys)
+}
+
+// Whether there is a name.
+fn has_some(name: Option<&[u8]>) -> bool
+    ensures { result ≡ has_some (option_map (λ n. n.now) name.entry) }
+{
+    match name {
+        Some(_) => true,
+        None => false,
+    }
 }
 
 // Whether two of these hold.
@@ -108,6 +136,7 @@ fn is_input(name: Option<&[u8]>) -> bool
 pub fn spare_keys<'w, Y: System>(system: &mut Y, job: &Job<'w>) -> Result<(), Trouble<'w>>
     ensures spared { OnOk result ((Y.state system.old).is_known ≡ true → AreSparedBy (Y.state system.old) job.now) }
     ensures refused { IfErr result (λ t. trouble_status t ≡ 12) }
+    ensures cause { OnErr result ((Y.state system.old).is_known ≡ true → AreSparedBy (Y.state system.old) job.now → ⊥) }
     ensures still { system.new ≡ system.old }
 {
     match spare_file(system, job.output, named(Some(job.keys.keys))) {
@@ -120,6 +149,7 @@ pub fn spare_keys<'w, Y: System>(system: &mut Y, job: &Job<'w>) -> Result<(), Tr
 fn spare_others<'w, Y: System>(system: &mut Y, job: &Job<'w>) -> Result<(), Trouble<'w>>
     ensures spared { OnOk result ((Y.state system.old).is_known ≡ true → AreSparedOthers (Y.state system.old) job.now) }
     ensures refused { IfErr result (λ t. trouble_status t ≡ 12) }
+    ensures cause { OnErr result ((Y.state system.old).is_known ≡ true → AreSparedOthers (Y.state system.old) job.now → ⊥) }
     ensures still { system.new ≡ system.old }
 {
     match spare_file(system, job.output, named(job.keys.master)) {
@@ -140,6 +170,8 @@ pub fn spare_file<'w, Y: System>(
     ensures spared { OnOk result ((Y.state system.old).is_known ≡ true
         → Differ (Y.state system.old) (option_map (λ n. n.now) output.entry) (option_map (λ n. n.now) file.entry)) }
     ensures refused { IfErr result (λ t. trouble_status t ≡ 12) }
+    ensures cause { OnErr result ((Y.state system.old).is_known ≡ true
+        → Differ (Y.state system.old) (option_map (λ n. n.now) output.entry) (option_map (λ n. n.now) file.entry) → ⊥) }
     ensures still { system.new ≡ system.old }
 {
     match output {
@@ -157,6 +189,8 @@ fn spare_named<'w, Y: System>(
     ensures spared { OnOk result ((Y.state system.old).is_known ≡ true
         → Differ (Y.state system.old) (Some output.now) (option_map (λ n. n.now) file.entry)) }
     ensures refused { IfErr result (λ t. trouble_status t ≡ 12) }
+    ensures cause { OnErr result ((Y.state system.old).is_known ≡ true
+        → Differ (Y.state system.old) (Some output.now) (option_map (λ n. n.now) file.entry) → ⊥) }
     ensures still { system.new ≡ system.old }
 {
     match file {

@@ -7,6 +7,7 @@ use std::alloc::{AllocError, Global};
 use std::marker::Brand;
 use std::sync::ledger::{Blank, Ledger};
 use tink_cli_jobs::keys::keyset_of;
+use tink_cli_jobs::protecting::spare_input;
 use tink_cli_jobs::{Job, WRITE_FAULT, job_of, put};
 use tink_cli_words::Line;
 use tink_io::{Kind, Sink};
@@ -19,8 +20,8 @@ use tink_system::{System, Trouble};
 /// them are not checked.
 ///
 /// # Errors
-/// Those of `stream_info` of `tink_rewrap` and of `keyset_of`, 11 if the file cannot be read, and 12 if standard output
-/// fails, by their statuses; 10.
+/// Those of `stream_info` of `tink_rewrap` and of `keyset_of`, by their statuses. 11 if the file cannot be read, or
+/// standard input is named for two things. 12 if standard output fails. 10.
 pub fn info<'w, Y: System, K: Sink>(
     alloc: Global,
     system: &mut Y,
@@ -34,6 +35,9 @@ pub fn info<'w, Y: System, K: Sink>(
     let Some(job) = job_of(line) else {
         return Err(Trouble::Usage);
     };
+    if let Err(trouble) = spare_input(&job) {
+        return Err(trouble);
+    }
     match keyset_of(alloc, system, job.keys) {
         Ok(keyset) => info_under(alloc, system, keyset.as_slice(), &job, sink),
         Err(trouble) => Err(trouble),
