@@ -1,3 +1,4 @@
+pub mod ElsewhereLemmas
 pub mod LoadingLemmas
 pub mod OutputLemmas
 pub mod ProtectingLemmas

@@ -1,3 +1,4 @@
+pub mod Elsewhere
 pub mod Jobs
 pub mod Loading
 pub mod Outputs
