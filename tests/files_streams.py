@@ -138,6 +138,17 @@ def tokens():
     write("cut", token[:-1])
     done = subprocess.run([PROGRAM, *verify, "-k", "macs.json", "cut"], capture_output=True)
     check(done.returncode in (27, 28), f"a cut token: {done}")
+    # An editor or `echo` ends a file by a newline: one is not part of the token.
+    write("edited", token + b"\n")
+    check(tink("verify", "-k", "macs.json", "edited") == payload, "a newline behind a token")
+    check(tink("verify", "-k", "macs.json", stdin=token + b"\n") == payload, "a newline behind a token on standard input")
+    for behind in (b"\n\n", b"\r\n", b" ", b" \n", b"\nx", b"."):
+        write("edited", token + behind)
+        tink(*verify, "-k", "macs.json", "edited", status=27, says="edited: bad token")
+    for data in (b"\n", b"\n" + token, token[:9] + b"\n" + token[9:]):
+        tink(*verify, "-k", "macs.json", status=27, stdin=data, says="standard input: bad token")
+    tink("verify", "-k", "others.bin", "-o", "nothing", stdin=tink("sign", "-k", "others.bin", "/dev/null") + b"\n")
+    check(read("nothing") == b"", "a newline behind the token of an empty payload")
     tink(*verify, "-k", "macs.json", "payload", status=27, says="payload: bad token")
     tink(*verify, "-k", "macs.json", "/dev/null", status=27, says="bad token")
     with open("long", "wb") as file:

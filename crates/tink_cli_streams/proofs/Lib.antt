@@ -1,3 +1,4 @@
 pub mod BreakingLemmas
 pub mod MovingLemmas
 pub mod PerformingLemmas
+pub mod TrimmingLemmas

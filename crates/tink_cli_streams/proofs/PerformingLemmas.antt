@@ -1,6 +1,6 @@
 -- What a task made, where it was put.
 use Rattle.std.proofs.Common.{◌≡◌, ℕ, List, [], Bool, true, false, refl, sym, ◌∙◌, subst, ap}
-use Rattle.std.specs.Prelude.{Option, Some, None, Result, Ok, Err, IfErr, IfOk, IfSome, IsErrAnd, IsSome, OnOk}
+use Rattle.std.specs.Prelude.{Option, Some, None, Result, Ok, Err, IfErr, IfOk, IfSome, IsErrAnd, IsSome, OnOk, option_map}
 use Rattle.tink_io.specs.Outside.{Outside, Told}
 use Rattle.tink_io.specs.declared.error.TinkError.{TinkError}
 use Rattle.tink_run.specs.declared.report.Command.TheVariants.{Open, Seal}
@@ -13,7 +13,7 @@ use Rattle.tink_system.specs.States.{KeepsSystem, SystemState, content, known_by
 use Rattle.tink_system.specs.declared.trouble.Trouble.{Trouble}
 use Rattle.tink_cli_jobs.specs.Outputs.{IsPut, KeepsFiles}
 use Rattle.tink_cli_jobs.proofs.OutputLemmas.{put_earlier, some_of}
-use Rattle.tink_cli_streams.specs.Performing.{IsPerformed, Makes, Spends, takes_random}
+use Rattle.tink_cli_streams.specs.Performing.{IsPerformed, Makes, Spends, takes_random, text_for}
 use Rattle.tink_cli_streams.specs.Streams.{IsOpened}
 
 -- what a sink has got that has got all of a task is known
@@ -85,16 +85,16 @@ known_given s input text known is = rw known at is
 
 -- of an input that was opened
 pub performed_on : (task : Task) (keyset aad drawn : List ℕ) (keeps : Bool) (input output : Option (List ℕ)) (old middle new : SystemState) (left got got_after : Option (List ℕ))
-    (result : Result (Unit {0}) Trouble) → middle ≡ old → left ≡ known_content old input → (old.is_known ≡ true → IsSome (content old input))
+    (result : Result (Unit {0}) Trouble) → middle ≡ old → left ≡ option_map (text_for task) (known_content old input) → (old.is_known ≡ true → IsSome (content old input))
     → OnOk result (middle.is_known ≡ true → (text : List ℕ) → left ≡ Some text
     → IsPut (λ before after. Makes task keyset aad drawn text before after) keeps middle new output got got_after)
     → OnOk result (old.is_known ≡ true → (text : List ℕ) × (known_content old input ≡ Some text)
-    × IsPut (λ before after. Makes task keyset aad drawn text before after) keeps old new output got got_after)
+    × IsPut (λ before after. Makes task keyset aad drawn (text_for task text) before after) keeps old new output got got_after)
 performed_on task keyset aad drawn keeps input output old middle new left got got_after (Ok done) same given there made = λ known.
     let found = some_of (content old input) (there known) in
     let read : known_content old input ≡ Some found.0 = ap (λ (b : Bool). known_bytes b (content old input)) known ∙ found.1 in
     let put = subst (λ (s : SystemState). s.is_known ≡ true → (text : List ℕ) → left ≡ Some text
-    → IsPut (λ before after. Makes task keyset aad drawn text before after) keeps s new output got got_after) same made known found.0 (given ∙ read) in
+    → IsPut (λ before after. Makes task keyset aad drawn text before after) keeps s new output got got_after) same made known (text_for task found.0) (given ∙ ap (λ (l : Option (List ℕ)). option_map (text_for task) l) read) in
     (found.0, read, put)
 performed_on task keyset aad drawn keeps input output old middle new left got got_after (Err t) same given there made = tt
 
@@ -102,7 +102,8 @@ performed_on task keyset aad drawn keeps input output old middle new left got go
 pub performed : (task : Task) (keyset aad drawn : List ℕ) (keeps : Bool) (input output : Option (List ℕ)) (old middle new : SystemState) (got got_after : Option (List ℕ))
     (result : Result (Unit {0}) Trouble)
     → KeepsFiles old middle → KeepsSystem old middle → (old.is_known ≡ true → Spends (takes_random task) old middle drawn) → new.random ≡ middle.random
-    → OnOk result (middle.is_known ≡ true → (text : List ℕ) × (known_content middle input ≡ Some text) × IsPut (λ before after. Makes task keyset aad drawn text before after) keeps middle new output got got_after)
+    → OnOk result (middle.is_known ≡ true → (text : List ℕ) × (known_content middle input ≡ Some text)
+    × IsPut (λ before after. Makes task keyset aad drawn (text_for task text) before after) keeps middle new output got got_after)
     → OnOk result (old.is_known ≡ true → IsPerformed task keyset aad keeps input output old new got got_after)
 performed task keyset aad drawn keeps input output old middle new got got_after (Ok done) files system spends same put = λ known.
     let known_then = system.known ∙ known in
@@ -112,7 +113,7 @@ performed task keyset aad drawn keeps input output old middle new got got_after 
       read = sym (content_earlier old middle input files system) ∙ known_given middle input made.0 known_then made.1;
       drawn = drawn;
       draws = spends_later (takes_random task) old middle new drawn same (spends known);
-      put = put_earlier (λ before after. Makes task keyset aad drawn made.0 before after) keeps old middle new output got got_after files system made.2;
+      put = put_earlier (λ before after. Makes task keyset aad drawn (text_for task made.0) before after) keeps old middle new output got got_after files system made.2;
     }
 performed task keyset aad drawn keeps input output old middle new got got_after (Err t) files system spends same put = tt
 

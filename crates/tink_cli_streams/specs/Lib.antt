@@ -1,3 +1,4 @@
 pub mod Breaking
 pub mod Performing
 pub mod Streams
+pub mod Trimming

@@ -8,6 +8,7 @@ use Rattle.tink_cli_files.specs.declared.tasks.Task.{Task}
 use Rattle.tink_cli_files.specs.declared.tasks.Task.TheVariants.{Rewrap, Run, Sign, Verify}
 use Rattle.tink_system.specs.States.{SystemState, content}
 use Rattle.tink_cli_jobs.specs.Outputs.{IsPut}
+use Rattle.tink_cli_streams.specs.Trimming.{trimmed_if}
 
 -- whether a task takes random bytes
 abbrev pub takes_random : Task → Bool
@@ -16,6 +17,17 @@ takes_random (Run Open) = false
 takes_random (Rewrap to to_aad) = true
 takes_random Sign = false
 takes_random Verify = false
+
+-- whether one newline at the end of the input of a task is not part of it
+abbrev pub trims : Task → Bool
+trims (Run command) = false
+trims (Rewrap to to_aad) = false
+trims Sign = false
+trims Verify = true
+
+-- the text of a task: its input, but of a token without one newline at the end
+abbrev pub text_for : Task → List ℕ → List ℕ
+text_for task input = trimmed_if (trims task) input
 
 -- a task takes the next random bytes of the system, or none
 abbrev pub Spends : Bool → SystemState → SystemState → List ℕ → Type 0
@@ -36,4 +48,4 @@ pub record IsPerformed (task : Task) (keyset aad : List ℕ) (keeps : Bool) (inp
   pub read : content old input ≡ Some text
   pub drawn : List ℕ
   pub draws : Spends (takes_random task) old new drawn
-  pub put : IsPut (λ before after. Makes task keyset aad drawn text before after) keeps old new output got got_after
+  pub put : IsPut (λ before after. Makes task keyset aad drawn (text_for task text) before after) keeps old new output got got_after

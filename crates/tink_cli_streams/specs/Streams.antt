@@ -1,5 +1,5 @@
 -- What the commands over streams and tokens have done.
-use Rattle.std.specs.Prelude.{◌≡◌, ℕ, List, [], Option, Some, None, Ok, option_map}
+use Rattle.std.specs.Prelude.{◌≡◌, ℕ, List, [], false, Option, Some, None, Ok, option_map}
 use Rattle.tink_cli_words.specs.LineRead.{LineRead}
 use Rattle.tink_cli_words.specs.declared.form.Action.{Action}
 use Rattle.tink_cli_words.specs.declared.form.Action.TheVariants as actions
@@ -12,7 +12,7 @@ use Rattle.tink_cli_files.specs.declared.tasks.Task.TheVariants.{Rewrap, Run, Si
 use Rattle.tink_system.specs.States.{SystemState, content}
 use Rattle.tink_cli_jobs.specs.Jobs.{IsKeysetOf, data_of}
 use Rattle.tink_cli_jobs.specs.Loading.{keyset_of, named}
-use Rattle.tink_cli_jobs.specs.Protecting.{AreSparedOf}
+use Rattle.tink_cli_jobs.specs.Protecting.{AreSparedOf, names_twice}
 use Rattle.tink_cli_jobs.specs.declared.job.Job.{Job}
 use Rattle.tink_cli_jobs.specs.declared.keys.KeyWords.{KeyWords}
 use Rattle.tink_cli_streams.specs.Performing.{IsPerformed}
@@ -31,22 +31,25 @@ IsMoveTo keyset aad (Rewrap to to_aad) = (to.now ≡ keyset) × (to_aad.now ≡ 
 IsMoveTo keyset aad _ = ⊥
 
 -- The task of a command was done: of the input and to the output that the words name, under their keyset and data. The output
--- is none of their files of keys.
+-- is none of their files of keys, and standard input is named for one thing at most.
 pub record IsMade (action : Action) (line : LineRead) (old new : SystemState) (got got_after : Option (List ℕ)) : Type 0 where
   pub task : Task
   pub is_of : own_task action ≡ Some task
   pub keyset : List ℕ
   pub keys : IsKeysetOf line old line.keys keyset
   pub spared : AreSparedOf old line
+  pub once : names_twice line ≡ false
   pub done : IsPerformed task keyset (data_of line.aad) line.no_clobber (named line.first) (named line.output) old new got got_after
 
--- The stream was moved to the keyset and data that the words name. The output is none of their files of keys.
+-- The stream was moved to the keyset and data that the words name. The output is none of their files of keys, and standard input
+-- is named for one thing at most.
 pub record IsMoved (line : LineRead) (old new : SystemState) (got got_after : Option (List ℕ)) : Type 0 where
   pub keyset : List ℕ
   pub keys : IsKeysetOf line old line.keys keyset
   pub new_keyset : List ℕ
   pub new_keys : IsKeysetOf line old line.to new_keyset
   pub spared : AreSparedOf old line
+  pub once : names_twice line ≡ false
   pub task : Task
   pub is_to : IsMoveTo new_keyset (data_of line.to_aad) task
   pub done : IsPerformed task keyset (data_of line.aad) line.no_clobber (named line.first) (named line.output) old new got got_after

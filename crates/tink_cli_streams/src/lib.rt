@@ -4,3 +4,4 @@
 pub mod checking;
 mod performing;
 pub mod streams;
+mod trimming;

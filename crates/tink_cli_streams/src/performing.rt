@@ -3,10 +3,12 @@
 ghost use Rattle.std.specs.Prelude.{◌≡◌, ◌≤◌, ℕ, List, Some, None, Ok, true, false, IfErr, IfOk, IfSome, IsErrAnd, OnErr, OnOk, option_map};
 ghost use Rattle.tink_cli_jobs.specs.Outputs.{IsInFile, IsPut, KeepsFiles, KeepsOtherFiles};
 ghost use Rattle.tink_cli_streams.specs.Breaking.{Breaks, IsUnperformed, MayBreak};
-ghost use Rattle.tink_cli_streams.specs.Performing.{IsPerformed, Makes, Spends, takes_random};
+ghost use Rattle.tink_cli_streams.specs.Performing.{IsPerformed, Makes, Spends, takes_random, text_for, trims};
+ghost use Rattle.tink_cli_streams.specs.Trimming.{unread};
 ghost use Rattle.tink_system.specs.States.{KeepsSystem, known_content};
 ghost use Rattle.tink_system.specs.Statuses.{refusal_status, trouble_status};
 
+use crate::trimming::Trimmed;
 use std::alloc::Global;
 use tink_cli_files::{Task, save_task, write_task};
 use tink_cli_jobs::{DRAWN, Job, WRITE_FAULT, how_of};
@@ -30,8 +32,8 @@ pub fn perform<'w, Y: System, K: Sink>(
     ensures done { OnOk result ((Y.state system.old).is_known ≡ true → IsPerformed task.entry keyset.now job.now.aad.now job.now.keeps_output
         (option_map (λ n. n.now) job.now.input) (option_map (λ n. n.now) job.now.output)
         (Y.state system.old) (Y.state system.new) (K.got sink.old) (K.got sink.new)) }
-    ensures broken { IfErr result (λ t. (Y.state system.old).is_known ≡ true → IsUnperformed task.entry keyset.now job.now.aad.now
-        (option_map (λ n. n.now) job.now.input) (Y.state system.old) (K.got sink.old) (K.got sink.new) (trouble_status t)) }
+    ensures broken { IfErr result (λ t. (Y.state system.old).is_known ≡ true → IsUnperformed (option_map (λ n. n.now) job.now.output)
+        task.entry keyset.now job.now.aad.now (option_map (λ n. n.now) job.now.input) (Y.state system.old) (K.got sink.old) (K.got sink.new) (trouble_status t)) }
     ensures kept { OnErr result ((Y.state system.old).is_known ≡ true → KeepsFiles (Y.state system.old) (Y.state system.new)) }
     ensures system { KeepsSystem (Y.state system.old) (Y.state system.new) }
     ensures later { Y.faults system.old ≤ Y.faults system.new }
@@ -73,10 +75,11 @@ fn perform_by<'w, Y: System, K: Sink>(
 ) -> Result<(), Trouble<'w>>
     ensures done { OnOk result ((Y.state system.old).is_known ≡ true → (text : List ℕ)
         × (known_content (Y.state system.old) (option_map (λ n. n.now) job.now.input) ≡ Some text)
-        × IsPut (λ before after. Makes task.entry keyset.now job.now.aad.now draws.old text before after) job.now.keeps_output
-        (Y.state system.old) (Y.state system.new) (option_map (λ n. n.now) job.now.output) (K.got sink.old) (K.got sink.new)) }
-    ensures broken { IfErr result (λ t. MayBreak task.entry keyset.now job.now.aad.now draws.old
-        (known_content (Y.state system.old) (option_map (λ n. n.now) job.now.input)) (K.got sink.old) (K.got sink.new) (trouble_status t)) }
+        × IsPut (λ before after. Makes task.entry keyset.now job.now.aad.now draws.old (text_for task.entry text) before after)
+        job.now.keeps_output (Y.state system.old) (Y.state system.new) (option_map (λ n. n.now) job.now.output) (K.got sink.old) (K.got sink.new)) }
+    ensures broken { IfErr result (λ t. MayBreak (option_map (λ n. n.now) job.now.output) task.entry keyset.now job.now.aad.now draws.old
+        (option_map (text_for task.entry) (known_content (Y.state system.old) (option_map (λ n. n.now) job.now.input)))
+        (K.got sink.old) (K.got sink.new) (trouble_status t)) }
     ensures kept { OnErr result ((Y.state system.old).is_known ≡ true → KeepsFiles (Y.state system.old) (Y.state system.new)) }
     ensures system { KeepsSystem (Y.state system.old) (Y.state system.new) }
     ensures random { (Y.state system.new).random ≡ (Y.state system.old).random }
@@ -84,8 +87,21 @@ fn perform_by<'w, Y: System, K: Sink>(
     ensures sink { K.same sink.old sink.new }
 {
     match system.open(job.input, job.is_quiet) {
-        Ok(mut input) => perform_on(alloc, system, task, keyset, job, draws, &mut input, sink),
+        Ok(source) => {
+            let mut input = Trimmed::new(source, trims(task));
+            perform_on(alloc, system, task, keyset, job, draws, &mut input, sink)
+        }
         Err(trouble) => Err(trouble),
+    }
+}
+
+// Whether one newline at the end of the input of a task is not part of it: only of a token.
+fn trims(task: Task<'_>) -> bool
+    ensures { result ≡ trims task.entry }
+{
+    match task {
+        Task::Verify => true,
+        _ => false,
     }
 }
 
@@ -97,14 +113,14 @@ fn perform_on<'w, Y: System, K: Sink>(
     keyset: &[u8],
     job: &Job<'w>,
     draws: &mut Draws,
-    input: &mut Y::Input,
+    input: &mut Trimmed<Y::Input>,
     sink: &mut K,
 ) -> Result<(), Trouble<'w>>
-    ensures done { OnOk result ((Y.state system.old).is_known ≡ true → (text : List ℕ) → Y.Input.left input.old ≡ Some text
+    ensures done { OnOk result ((Y.state system.old).is_known ≡ true → (text : List ℕ) → unread input.old.trims input.old.held (Y.Input.left input.old.source) ≡ Some text
         → IsPut (λ before after. Makes task.entry keyset.now job.now.aad.now draws.old text before after) job.now.keeps_output
         (Y.state system.old) (Y.state system.new) (option_map (λ n. n.now) job.now.output) (K.got sink.old) (K.got sink.new)) }
-    ensures broken { IfErr result (λ t. MayBreak task.entry keyset.now job.now.aad.now draws.old (Y.Input.left input.old)
-        (K.got sink.old) (K.got sink.new) (trouble_status t)) }
+    ensures broken { IfErr result (λ t. MayBreak (option_map (λ n. n.now) job.now.output) task.entry keyset.now job.now.aad.now draws.old
+        (unread input.old.trims input.old.held (Y.Input.left input.old.source)) (K.got sink.old) (K.got sink.new) (trouble_status t)) }
     ensures kept { OnErr result ((Y.state system.old).is_known ≡ true → KeepsFiles (Y.state system.old) (Y.state system.new)) }
     ensures system { KeepsSystem (Y.state system.old) (Y.state system.new) }
     ensures random { (Y.state system.new).random ≡ (Y.state system.old).random }
@@ -125,18 +141,18 @@ fn put<'w, Y: System, K: Sink>(
     keyset: &[u8],
     job: &Job<'w>,
     draws: &mut Draws,
-    input: &mut Y::Input,
+    input: &mut Trimmed<Y::Input>,
     sink: &mut K,
 ) -> Result<(), Trouble<'w>>
-    ensures done { OnOk result ((text before : List ℕ) → Y.Input.left input.old ≡ Some text → K.got sink.old ≡ Some before
+    ensures done { OnOk result ((text before : List ℕ) → unread input.old.trims input.old.held (Y.Input.left input.old.source) ≡ Some text → K.got sink.old ≡ Some before
         → Makes task.entry keyset.now job.now.aad.now draws.old text before (K.got sink.new)) }
-    ensures broken { IfErr result (λ t. Breaks task.entry keyset.now job.now.aad.now draws.old (Y.Input.left input.old)
-        (K.got sink.old) (K.got sink.new) (trouble_status t)) }
+    ensures broken { IfErr result (λ t. Breaks task.entry keyset.now job.now.aad.now draws.old
+        (unread input.old.trims input.old.held (Y.Input.left input.old.source)) (K.got sink.old) (K.got sink.new) (trouble_status t)) }
     ensures still { system.new ≡ system.old }
     ensures sink { K.same sink.old sink.new }
 {
     let answer = write_task(alloc, task, keyset, job.aad, draws, input, sink);
-    ended(system, answer, input, job, WRITE_FAULT)
+    ended(system, answer, &input.source, job, WRITE_FAULT)
 }
 
 // Writes it to a stream or to a file.
@@ -147,10 +163,10 @@ fn put_to<'w, Y: System>(
     keyset: &[u8],
     job: &Job<'w>,
     draws: &mut Draws,
-    input: &mut Y::Input,
+    input: &mut Trimmed<Y::Input>,
     output: &'w [u8],
 ) -> Result<(), Trouble<'w>>
-    ensures done { OnOk result ((Y.state system.old).is_known ≡ true → (text : List ℕ) → Y.Input.left input.old ≡ Some text
+    ensures done { OnOk result ((Y.state system.old).is_known ≡ true → (text : List ℕ) → unread input.old.trims input.old.held (Y.Input.left input.old.source) ≡ Some text
         → IsInFile (λ before after. Makes task.entry keyset.now job.now.aad.now draws.old text before after) job.now.keeps_output
         (Y.state system.old) (Y.state system.new) output.now) }
     ensures kept { OnErr result ((Y.state system.old).is_known ≡ true → KeepsFiles (Y.state system.old) (Y.state system.new)) }
@@ -172,7 +188,7 @@ fn put_to_stream<'w, Y: System>(
     keyset: &[u8],
     job: &Job<'w>,
     draws: &mut Draws,
-    input: &mut Y::Input,
+    input: &mut Trimmed<Y::Input>,
     output: &'w [u8],
 ) -> Result<(), Trouble<'w>>
     ensures state { Y.state system.new ≡ Y.state system.old }
@@ -182,7 +198,7 @@ fn put_to_stream<'w, Y: System>(
         Ok(mut stream) => {
             let answer = write_task(alloc, task, keyset, job.aad, draws, input, &mut stream);
             let reason = system.reason_of_stream(&stream);
-            ended(system, answer, input, job, reason)
+            ended(system, answer, &input.source, job, reason)
         }
         Err(trouble) => Err(trouble),
     }
@@ -196,10 +212,10 @@ fn put_to_file<'w, Y: System>(
     keyset: &[u8],
     job: &Job<'w>,
     draws: &mut Draws,
-    input: &mut Y::Input,
+    input: &mut Trimmed<Y::Input>,
     output: &'w [u8],
 ) -> Result<(), Trouble<'w>>
-    ensures done { OnOk result ((Y.state system.old).is_known ≡ true → (text : List ℕ) → Y.Input.left input.old ≡ Some text
+    ensures done { OnOk result ((Y.state system.old).is_known ≡ true → (text : List ℕ) → unread input.old.trims input.old.held (Y.Input.left input.old.source) ≡ Some text
         → IsInFile (λ before after. Makes task.entry keyset.now job.now.aad.now draws.old text before after) job.now.keeps_output
         (Y.state system.old) (Y.state system.new) output.now) }
     ensures kept { OnErr result ((Y.state system.old).is_known ≡ true → KeepsFiles (Y.state system.old) (Y.state system.new)) }
@@ -223,12 +239,12 @@ fn put_to_draft<'w, Y: System>(
     keyset: &[u8],
     job: &Job<'w>,
     draws: &mut Draws,
-    input: &mut Y::Input,
+    input: &mut Trimmed<Y::Input>,
     output: &'w [u8],
     mut draft: Y::Draft,
 ) -> Result<(), Trouble<'w>>
     requires { Y.Draft.has_draft draft ≡ true }
-    ensures done { OnOk result ((text before : List ℕ) → Y.Input.left input.old ≡ Some text → Y.Draft.got draft ≡ Some before
+    ensures done { OnOk result ((text before : List ℕ) → unread input.old.trims input.old.held (Y.Input.left input.old.source) ≡ Some text → Y.Draft.got draft ≡ Some before
         → Makes task.entry keyset.now job.now.aad.now draws.old text before ((Y.state system.new).file output.now)) }
     ensures fresh { OnOk result (Y.Draft.replaces draft ≡ false → IfSome (Y.Draft.shown draft) (λ file. file ≡ None)) }
     ensures others { KeepsOtherFiles (Y.state system.old) (Y.state system.new) output.now }
@@ -241,7 +257,7 @@ fn put_to_draft<'w, Y: System>(
     let answer = save_task(alloc, task, keyset, job.aad, draws, input, &mut draft);
     let reason = system.reason_of_draft(&draft);
     match system.settle(alloc, output, draft) {
-        Ok(()) => ended(system, answer, input, job, reason),
+        Ok(()) => ended(system, answer, &input.source, job, reason),
         Err(trouble) => Err(trouble),
     }
 }

@@ -14,7 +14,7 @@ returns-in-Ok-clause-done g c =
     (g.Y.System.state c.perform.new.system) _ _ c.perform.result (sym some.ensures) some.ensures' (c.in-Ok.ensures.state ∙ still)
     (loaded_by (g.Y.System.state c.args.system.now) (g.Y.System.state c.spare_terminal.new.system) some.job.keys c.in-Ok.keyset c.as_slice.result.now still c.as_slice.ensures
     c.in-Ok.ensures.loaded)
-    (subst (λ (s : SystemState). s.is_known ≡ true → AreSparedBy s some.job) still c.in-Ok.ensures.spared) c.perform.ensures.done
+    (subst (λ (s : SystemState). s.is_known ≡ true → AreSparedBy s some.job) still c.in-Ok.ensures.spared) c.in-Ok.ensures.once c.perform.ensures.done
 
 pub returns-in-Ok-clause-broken : goal.returns-in-Ok-clause-broken
 returns-in-Ok-clause-broken g c =
