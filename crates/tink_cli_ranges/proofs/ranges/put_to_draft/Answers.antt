@@ -6,9 +6,10 @@ use Rattle.tink_cli_ranges.proofs.ranges.put_to_draft.Goals as goal
 
 pub returns-in-Ok-clause-done : goal.returns-in-Ok-clause-done
 returns-in-Ok-clause-done g c =
-    slice_shown g.Y.Draft.Sink.got c.args.keyset.now c.args.job.now.aad.now c.args.start c.args.length (g.Y.Object.ReadAt.bytes c.args.object.now) c.args.draft
-    (λ d. ends_of g.Y.Object.ReadAt.bytes g.Y.Object.ReadAt.faults c.args.object.now c.range_to-answer.new.object c.args.draft d) _ _ _ _ c.range_to-answer.result _ c.ended.result
-    (λ d. refl) (λ d. refl) (λ d. refl) c.range_to-answer.ensures.ok c.ended.ensures.refused c.in-Ok.ensures.settled.file
+    slice_shown g.Y.Draft.Sink.got g.Y.Draft.Sink.faults c.args.keyset.now c.args.job.now.aad.now _ c.args.start c.args.length c.args.object.now c.range_to-answer.new.object
+    (g.Y.Object.ReadAt.bytes c.args.object.now) c.args.draft
+    (λ d. ends_of g.Y.Object.ReadAt.bytes g.Y.Object.ReadAt.faults c.args.object.now c.range_to-answer.new.object c.args.draft d) _ _ _ _ _ c.range_to-answer.result _ c.ended.result
+    (λ d. refl) (λ d. refl) (λ d. refl) (g.met.Y.Object.ReadAt.told c.args.object.now) c.range_to-answer.ensures.ran c.range_to-answer.ensures.ok c.ended.ensures.refused c.in-Ok.ensures.settled.file
 
 pub returns-in-Ok-clause-fresh : goal.returns-in-Ok-clause-fresh
 returns-in-Ok-clause-fresh g c =

@@ -10,4 +10,4 @@ returns-in-Ok-clause-done g c =
     ranged_by_words c.args.line.now some.job some.start some.length c.as_slice.result.now old (g.Y.System.state c.keyset_for.new.system)
     (g.Y.System.state c.range_under.new.system) _ _ c.range_under.result some.ensures some.ensures' some.ensures'' c.in-Ok.ensures.state
     (loaded_by old old some.job.keys c.in-Ok.keyset c.as_slice.result.now refl c.as_slice.ensures c.in-Ok.ensures.loaded)
-    c.in-Ok.ensures.spared c.range_under.ensures.done
+    c.in-Ok.ensures.spared c.in-Ok.ensures.once c.range_under.ensures.done
