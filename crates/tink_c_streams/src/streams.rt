@@ -6,6 +6,7 @@ ghost use Rattle.tink_keyset_io.specs.Files.{wire_of};
 ghost use Rattle.tink_c_bytes.specs.Delivered.{MadeBy};
 ghost use Rattle.tink_c_streams.specs.Streams.{GivesRange, IsNoRange, IsRange, Moved, MovedNot, Moves, MovesNot, Ran, RanNot, RefusesRange, Runs, RunsNot, Writes, WritesNot};
 
+use crate::lent_at::LentAt;
 use std::alloc::Global;
 use std::marker::Brand;
 use std::sync::ledger::{Blank, Ledger};
@@ -13,7 +14,7 @@ use tink_c_bytes::{Growing, copied, draws_of, taken};
 use tink_io::{SureSource, TinkError};
 use tink_keyset_io::key_files::wire_bytes;
 use tink_proto::Bytes;
-use tink_range::{Steps, SureAt};
+use tink_range::Steps;
 use tink_rewrap::ranges::run_range;
 use tink_rewrap::rewrap::rewrap;
 use tink_run::report::Command;
@@ -187,8 +188,7 @@ fn range_made<L: Ledger>(
         (IsNoRange wire.now associated_data.now input.now start len) result }
 {
     let mut steps = Steps::<L>::new(blank);
-    let bytes = copied(alloc, input)?;
-    let mut object = SureAt::new(bytes);
+    let mut object = LentAt::new(input);
     let mut sink = Growing::new(alloc);
     let answer = run_range(
         alloc,
