@@ -132,7 +132,7 @@ tink_status tink_keyset_list_json(const uint8_t *keyset, size_t keyset_len,
                                   uint8_t *out, size_t out_room, size_t *written);
 
 /* The keyset encrypted by the primary key of a master keyset of AEADs, in JSON if `json`, else in binary.
- * Statuses: those of keys of the master; those of a keyset; TINK_MASTER_FAILED, also if there are too few random bytes. */
+ * Statuses: those of keys of the master; TINK_RANDOM_FAULT; those of a keyset; TINK_MASTER_FAILED. */
 tink_status tink_keyset_wrap(const uint8_t *master, size_t master_len,
                              const uint8_t *keyset, size_t keyset_len,
                              const uint8_t *associated_data, size_t associated_data_len, bool json,

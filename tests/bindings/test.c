@@ -219,7 +219,7 @@ static void create(data t, data r, data k) {
   GIVES(wrapped, tink_keyset_wrap, D(master), D(k), D(t), true, D(r));
   GIVES(k, tink_keyset_unwrap, D(master), D(wrapped), D(t), false);
   REFUSES(TINK_MASTER_FAILED, tink_keyset_unwrap, D(master), D(wrapped), t.bytes, t.len - 1, false);
-  REFUSES(TINK_MASTER_FAILED, tink_keyset_wrap, D(master), D(k), D(t), true, r.bytes, 3);
+  REFUSES(TINK_RANDOM_FAULT, tink_keyset_wrap, D(master), D(k), D(t), true, r.bytes, 3);
   free(json.bytes), free(two.bytes), free(off.bytes), free(back.bytes), free(gone.bytes), free(one.bytes);
   free(added.bytes), free(master.bytes), free(wrapped.bytes);
 }
