@@ -13,7 +13,7 @@ use Rattle.tink_cli_jobs.specs.Loading.{named, whole_of}
 use Rattle.tink_cli_jobs.specs.Outputs.{KeepsFiles, KeepsOtherFiles}
 use Rattle.tink_cli_jobs.proofs.OutputLemmas.{put_earlier}
 use Rattle.tink_cli_keys.specs.KeyFiles.{IsChanged, IsConverted, IsNew, format_named, prefix_named}
-use Rattle.tink_cli_keys.specs.Saving.{IsAppended, IsSavedNew}
+use Rattle.tink_cli_keys.specs.Saving.{IsAppended, IsSavedNew, readable}
 
 -- a draw changes no file, and of the rest only what is random
 pub drawn_files : (old middle : SystemState) (n : ℕ) (drawn : List ℕ) → IsDrawnFrom old middle n drawn → KeepsFiles old middle
@@ -35,7 +35,7 @@ pub put_drawn : (makes : List ℕ → Result (List ℕ) Kind) (drawn next : List
     → drawn ≡ next → KeepsFiles old middle → KeepsSystem old middle → IsSavedNew (makes drawn) middle new output got got_after
     → IsSavedNew (makes next) old new output got got_after
 put_drawn makes drawn next old middle new output got got_after is files system put =
-    put_earlier (λ b a. IsAppended (makes next) b a) true old middle new (named (Some output)) got got_after files system
+    put_earlier (λ b a. IsAppended (readable (makes next)) b a) true old middle new (named (Some output)) got got_after files system
     (subst (λ (d : List ℕ). IsSavedNew (makes d) middle new output got got_after) is put)
 
 -- a new file
@@ -64,7 +64,7 @@ made_new line template output prefix format drawn old middle new got got_after (
 -- a file that was read and is replaced
 pub changed_whole : (makes : List ℕ → Result (List ℕ) Kind) (path file : List ℕ) (old middle new : SystemState) (got : Option (List ℕ)) (result : Result (Unit {0}) Trouble)
     → middle ≡ old → (old.is_known ≡ true → old.file path ≡ Some file) → KeepsOtherFiles middle new path
-    → OnOk result ((before : List ℕ) → got ≡ Some before → IsAppended (makes file) before (new.file path))
+    → OnOk result ((before : List ℕ) → got ≡ Some before → IsAppended (readable (makes file)) before (new.file path))
     → OnOk result (old.is_known ≡ true → got ≡ Some [] → IsChanged makes path old new)
 changed_whole makes path file old middle new got (Ok done) same read others put = λ known none.
     let made = put [] none in

@@ -1,3 +1,4 @@
 pub mod KeyFileLemmas
+pub mod RefusingLemmas
 pub mod SavingLemmas
 pub mod WrappingLemmas

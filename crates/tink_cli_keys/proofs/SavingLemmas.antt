@@ -13,7 +13,7 @@ use Rattle.tink_system.specs.declared.trouble.Trouble.{Trouble}
 use Rattle.tink_cli_jobs.specs.Loading.{named}
 use Rattle.tink_cli_jobs.specs.Outputs.{IsPut, KeepsOtherFiles}
 use Rattle.tink_cli_jobs.proofs.OutputLemmas.{drafted, put_in_file}
-use Rattle.tink_cli_keys.specs.Saving.{IsAppended, IsSavedNew}
+use Rattle.tink_cli_keys.specs.Saving.{IsAppended, IsPutNew}
 
 -- shown under a name
 pub saved_file : (given : Result (List ℕ) Kind) (answer : Result (Unit {0}) TinkError) (draft : Option (List ℕ)) (replaces : Bool) (before shown : Option (Option (List ℕ))) (i j : ℕ)
@@ -47,7 +47,7 @@ pub saved_new : (given : Result (List ℕ) Kind) (old begun new : SystemState) (
     → Some name ≡ named (Some output) → begun ≡ old → HasBegun old name Fresh has_draft replaces has before → KeepsOtherFiles begun new name
     → OnOk result (replaces ≡ false → IfSome before (λ file. file ≡ None))
     → OnOk result ((had : List ℕ) → has ≡ Some had → IsAppended given had (new.file name))
-    → OnOk result (old.is_known ≡ true → IsSavedNew given old new output got got)
+    → OnOk result (old.is_known ≡ true → IsPutNew given old new output got got)
 saved_new given old begun new output name has_draft replaces has got before (Ok done) is same draft others fresh made = λ known.
     subst (λ (n : Option (List ℕ)). IsPut (λ b a. IsAppended given b a) true old new n got got) is
     (put_in_file (λ X b a. IsAppended given b a) (λ X. Unit {0}) true old new name got (Ok done)

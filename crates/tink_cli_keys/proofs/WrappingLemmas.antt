@@ -1,5 +1,5 @@
 -- Files of keys that were wrapped, by the words.
-use Rattle.std.proofs.Common.{◌≡◌, ℕ, List, true, sym, ◌∙◌, subst, ap}
+use Rattle.std.proofs.Common.{◌≡◌, ℕ, List, true, false, sym, ◌∙◌, subst, ap}
 use Rattle.std.specs.Prelude.{Option, Some, Result, Ok, Err, OnOk, take}
 use Rattle.tink_cli_words.specs.LineRead.{LineRead}
 use Rattle.tink_io.specs.declared.error.Kind.{Kind}
@@ -13,7 +13,7 @@ use Rattle.tink_system.specs.declared.trouble.Trouble.{Trouble}
 use Rattle.tink_cli_jobs.specs.Loading.{IsMasterOf, named, whole_of}
 use Rattle.tink_cli_jobs.specs.Protecting.{Differ}
 use Rattle.tink_cli_keys.specs.Saving.{IsSavedNew}
-use Rattle.tink_cli_keys.specs.Wrapping.{AreSparedWords, AreWords, IsUnwrapped, IsUnwrappedBy, IsWrapped, IsWrappedBy, IsWrappedKeys, wrapped_of}
+use Rattle.tink_cli_keys.specs.Wrapping.{AreSparedWords, AreWords, IsUnwrapped, IsUnwrappedBy, IsWrapped, IsWrappedBy, IsWrappedKeys, read_twice, wrapped_of}
 use Rattle.tink_cli_keys.specs.declared.wrapping.Words.{Words}
 use Rattle.tink_cli_keys.proofs.KeyFileLemmas.{drawn_files, drawn_system, put_drawn}
 
@@ -49,9 +49,9 @@ wrapped_under master keys words old middle new got got_after (Err t) same read m
 -- by the master that the words name
 pub wrapped_by_words : (line : LineRead) (words : Words) (master : WrappedAead AeadKind) (old middle new : SystemState) (got got_after : Option (List ℕ))
     (result : Result (Unit {0}) Trouble) → AreWords line words → middle ≡ old → IsMasterOf old words.master.now master → (old.is_known ≡ true → AreSparedWords old words)
-    → OnOk result (middle.is_known ≡ true → (m : MasterKeys) → IsMaster m master → IsWrappedBy m words middle new got got_after)
+    → read_twice words ≡ false → OnOk result (middle.is_known ≡ true → (m : MasterKeys) → IsMaster m master → IsWrappedBy m words middle new got got_after)
     → OnOk result (old.is_known ≡ true → IsWrapped line old new got got_after)
-wrapped_by_words line words master old middle new got got_after (Ok done) are same loaded spared made = λ known.
+wrapped_by_words line words master old middle new got got_after (Ok done) are same loaded spared once made = λ known.
     let found = loaded known in
     record {
       words = words;
@@ -59,16 +59,17 @@ wrapped_by_words line words master old middle new got got_after (Ok done) are sa
       m = found.0;
       loaded = found.1;
       spared = spared known;
+      once = once;
       wrapped = subst (λ (s : SystemState). s.is_known ≡ true → (m : MasterKeys) → IsMaster m master → IsWrappedBy m words s new got got_after) same made known found.0 found.2;
     }
-wrapped_by_words line words master old middle new got got_after (Err t) are same loaded spared made = tt
+wrapped_by_words line words master old middle new got got_after (Err t) are same loaded spared once made = tt
 
 -- an unwrapped one
 pub unwrapped_by_words : (line : LineRead) (words : Words) (master : WrappedAead AeadKind) (old middle new : SystemState) (got got_after : Option (List ℕ))
     (result : Result (Unit {0}) Trouble) → AreWords line words → middle ≡ old → IsMasterOf old words.master.now master → (old.is_known ≡ true → AreSparedWords old words)
-    → OnOk result (middle.is_known ≡ true → (m : MasterKeys) → IsMaster m master → IsUnwrappedBy m words middle new got got_after)
+    → read_twice words ≡ false → OnOk result (middle.is_known ≡ true → (m : MasterKeys) → IsMaster m master → IsUnwrappedBy m words middle new got got_after)
     → OnOk result (old.is_known ≡ true → IsUnwrapped line old new got got_after)
-unwrapped_by_words line words master old middle new got got_after (Ok done) are same loaded spared made = λ known.
+unwrapped_by_words line words master old middle new got got_after (Ok done) are same loaded spared once made = λ known.
     let found = loaded known in
     record {
       words = words;
@@ -76,9 +77,10 @@ unwrapped_by_words line words master old middle new got got_after (Ok done) are 
       m = found.0;
       loaded = found.1;
       spared = spared known;
+      once = once;
       unwrapped = subst (λ (s : SystemState). s.is_known ≡ true → (m : MasterKeys) → IsMaster m master → IsUnwrappedBy m words s new got got_after) same made known found.0 found.2;
     }
-unwrapped_by_words line words master old middle new got got_after (Err t) are same loaded spared made = tt
+unwrapped_by_words line words master old middle new got got_after (Err t) are same loaded spared once made = tt
 
 -- of a wrapped file that was read
 pub unwrapped_under : (master : WrappedAead AeadKind) (file : List ℕ) (words : Words) (old middle new : SystemState) (got got_after : Option (List ℕ))

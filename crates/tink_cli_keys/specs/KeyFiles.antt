@@ -23,7 +23,7 @@ use Rattle.tink_cli_files.specs.Saved.{added_file, converted_file, new_file, rot
 use Rattle.tink_cli_jobs.specs.Loading.{named, whole_of}
 use Rattle.tink_cli_jobs.specs.Outputs.{KeepsOtherFiles}
 use Rattle.tink_system.specs.States.{SystemState}
-use Rattle.tink_cli_keys.specs.Saving.{IsAppended, IsSavedNew}
+use Rattle.tink_cli_keys.specs.Saving.{IsAppended, IsSavedNew, readable}
 use Rattle.tink_cli_keys.specs.declared.keys.Change.{Change}
 use Rattle.tink_cli_keys.specs.declared.keys.Change.TheVariants as changes
 use Rattle.tink_cli_keys.specs.declared.keys.Growth.{Growth}
@@ -81,12 +81,12 @@ listed_as false keyset = listed keyset
 abbrev pub listed_file : Bool → List ℕ → Result (List ℕ) Kind
 listed_file json file = chained (λ keyset. listed_as json keyset) (wire_of file)
 
--- The file of a name is what is made of it. Every other file stays.
+-- The file of a name is what is made of it, and can be read again. Every other file stays.
 pub record IsChanged (makes : List ℕ → Result (List ℕ) Kind) (path : List ℕ) (old new : SystemState) : Type 0 where
   pub file : List ℕ
   pub was : old.file path ≡ Some file
   pub made : List ℕ
-  pub by : makes file ≡ Ok made
+  pub by : readable (makes file) ≡ Ok made
   pub is : new.file path ≡ Some made
   pub others : KeepsOtherFiles old new path
 

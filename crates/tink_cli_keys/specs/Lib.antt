@@ -1,3 +1,4 @@
 pub mod KeyFiles
+pub mod Refusing
 pub mod Saving
 pub mod Wrapping

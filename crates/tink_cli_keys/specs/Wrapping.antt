@@ -1,5 +1,5 @@
 -- What the commands that keep a file of keys under a master have done.
-use Rattle.std.specs.Prelude.{◌≡◌, ℕ, List, Option, Some, Result, Ok, take, drop}
+use Rattle.std.specs.Prelude.{◌≡◌, ◌&&◌, ℕ, List, Bool, false, Option, Some, Result, Ok, take, drop}
 use Rattle.tink_cli_words.specs.LineRead.{LineRead}
 use Rattle.tink_io.specs.declared.error.Kind.{Kind}
 use Rattle.tink_keysets.specs.Encrypted.{chained}
@@ -7,7 +7,7 @@ use Rattle.tink_cli_files.specs.Masters.{MasterKeys}
 use Rattle.tink_cli_files.specs.Wrapping.{unwrapped_file, wrapped_file}
 use Rattle.tink_cli_jobs.specs.Jobs.{data_of}
 use Rattle.tink_cli_jobs.specs.Loading.{master_of_file, named, whole_of}
-use Rattle.tink_cli_jobs.specs.Protecting.{Differ}
+use Rattle.tink_cli_jobs.specs.Protecting.{Differ, is_input}
 use Rattle.tink_system.specs.States.{SystemState}
 use Rattle.tink_cli_keys.specs.KeyFiles.{format_named}
 use Rattle.tink_cli_keys.specs.Saving.{IsSavedNew}
@@ -25,6 +25,10 @@ pub record AreWords (line : LineRead) (words : Words) : Type 0 where
 pub record AreSparedWords (s : SystemState) (words : Words) : Type 0 where
   pub of_master : Differ s (named (Some words.output.now)) (named (Some words.master.now))
   pub of_input : Differ s (named (Some words.output.now)) (named (Some words.input.now))
+
+-- whether the master and the file that is read are both standard input
+abbrev pub read_twice : Words → Bool
+read_twice words = is_input (Some words.master.now) && is_input (Some words.input.now)
 
 -- the wrapped file of a file of keys that may not be read
 abbrev pub wrapped_of : MasterKeys → Words → List ℕ → Result (List ℕ) Kind → Result (List ℕ) Kind
@@ -46,6 +50,7 @@ pub record IsWrapped (line : LineRead) (old new : SystemState) (got got_after : 
   pub m : MasterKeys
   pub loaded : master_of_file old words.master.now ≡ Ok m
   pub spared : AreSparedWords old words
+  pub once : read_twice words ≡ false
   pub wrapped : IsWrappedBy m words old new got got_after
 
 -- a wrapped file was unwrapped by a master
@@ -60,4 +65,5 @@ pub record IsUnwrapped (line : LineRead) (old new : SystemState) (got got_after 
   pub m : MasterKeys
   pub loaded : master_of_file old words.master.now ≡ Ok m
   pub spared : AreSparedWords old words
+  pub once : read_twice words ≡ false
   pub unwrapped : IsUnwrappedBy m words old new got got_after

@@ -1,13 +1,16 @@
 //! The commands on files of keys.
 
-ghost use Rattle.std.specs.Prelude.{◌≡◌, ◌≤◌, ℕ, List, [], Some, true, OnErr, OnOk};
+ghost use Rattle.std.specs.Prelude.{◌≡◌, ◌≤◌, ℕ, List, [], Some, true, IfErr, IfOk, OnErr, OnOk};
 ghost use Rattle.tink_io.specs.Told.{Answers};
 ghost use Rattle.tink_cli_keys.specs.KeyFiles.{AreListed, IsChanged, IsConverted, IsEdited, IsGrown, IsNew, changed_file, listed_as, listed_file};
+ghost use Rattle.tink_cli_keys.specs.Refusing.{IsCaused, IsRefusedAs, LeavesOutAs, converted_by, edited_by, grown_by, made_of_file, new_by};
 ghost use Rattle.tink_cli_keys.specs.Saving.{IsAppended};
+ghost use Rattle.tink_cli_jobs.specs.Loading.{Fails, Gives, named, whole_of};
 ghost use Rattle.tink_cli_jobs.specs.Outputs.{KeepsFiles};
-ghost use Rattle.tink_system.specs.States.{KeepsSystem};
+ghost use Rattle.tink_system.specs.States.{HasContent, KeepsSystem};
+ghost use Rattle.tink_system.specs.Statuses.{trouble_status};
 
-use crate::saving::{give_up, save_in, save_new};
+use crate::saving::{give_up, readable, save_in, save_new};
 use crate::words::{edit_of, format_of, growth_of, prefix_of};
 use std::alloc::Global;
 use tink_cli_files::{added_file, converted_file, new_file, rotated_file};
@@ -23,7 +26,7 @@ use tink_system::{How, System, Trouble};
 ///
 /// # Errors
 /// 24 if no template has the name. 35 if the system gives no random bytes. 12 if a file has the name, or it cannot be
-/// written. 10. No file is changed then.
+/// written. 13 if no file of keys may be so long. 10. No file is changed then.
 pub fn make<'w, Y: System, K: Sink>(
     alloc: Global,
     system: &mut Y,
@@ -32,6 +35,10 @@ pub fn make<'w, Y: System, K: Sink>(
 ) -> Result<(), Trouble<'w>>
     ensures done { OnOk result ((Y.state system.old).is_known ≡ true → IsNew line.now
         (Y.state system.old) (Y.state system.new) (K.got sink.old) (K.got sink.new)) }
+    ensures refused { IfErr result (λ t. (Y.state system.old).is_known ≡ true → IsRefusedAs (Y.faults system.old) (Y.faults system.new)
+        (new_by line.now (Y.state system.old)) (trouble_status t)) }
+    ensures left { OnErr result ((Y.state system.old).is_known ≡ true → LeavesOutAs (new_by line.now (Y.state system.old)) (named line.now.output)
+        (K.got sink.old) (K.got sink.new)) }
     ensures kept { OnErr result ((Y.state system.old).is_known ≡ true → KeepsFiles (Y.state system.old) (Y.state system.new)) }
     ensures system { KeepsSystem (Y.state system.old) (Y.state system.new) }
     ensures later { Y.faults system.old ≤ Y.faults system.new }
@@ -122,6 +129,7 @@ fn listed(alloc: Global, keyset: &[u8], is_json: bool) -> Result<Bytes, TinkErro
 ///
 /// # Errors
 /// - 11, 13, 14 and 30 as `show`;
+/// - 13 also if no file of keys may be as long as that with the new key;
 /// - 24 if no template has the name;
 /// - 18 if a rotation is to keys of another primitive and the words do not force it;
 /// - 25 if no unused id is drawn;
@@ -137,6 +145,8 @@ pub fn grow<'w, Y: System>(
     line: &Line<'w>,
 ) -> Result<(), Trouble<'w>>
     ensures done { OnOk result ((Y.state system.old).is_known ≡ true → IsGrown action line.now (Y.state system.old) (Y.state system.new)) }
+    ensures refused { IfErr result (λ t. (Y.state system.old).is_known ≡ true → IsRefusedAs (Y.faults system.old) (Y.faults system.new)
+        (grown_by action line.now (Y.state system.old)) (trouble_status t)) }
     ensures kept { OnErr result ((Y.state system.old).is_known ≡ true → KeepsFiles (Y.state system.old) (Y.state system.new)) }
     ensures system { KeepsSystem (Y.state system.old) (Y.state system.new) }
     ensures later { Y.faults system.old ≤ Y.faults system.new }
@@ -154,7 +164,7 @@ pub fn grow<'w, Y: System>(
 /// `promote KEYS ID`, and the same of `enable`, `disable`, `destroy` and `delete`: the first key of the id is changed.
 ///
 /// # Errors
-/// 11, 13, 14 and 30 as `show`. 31 if no key has the id. 32 if it is the primary key, which only `promote` and
+/// 11, 13, 14 and 30 as `show`. 13 also if no file of keys may be as long as the changed one. 31 if no key has the id. 32 if it is the primary key, which only `promote` and
 /// `enable` take. 33 if its status does not allow the change. 12 if the file cannot be written, or another change of
 /// it is at work. 10. No file is changed then.
 pub fn edit<'w, Y: System>(
@@ -164,6 +174,8 @@ pub fn edit<'w, Y: System>(
     line: &Line<'w>,
 ) -> Result<(), Trouble<'w>>
     ensures done { OnOk result ((Y.state system.old).is_known ≡ true → IsEdited action line.now (Y.state system.old) (Y.state system.new)) }
+    ensures refused { IfErr result (λ t. (Y.state system.old).is_known ≡ true → IsRefusedAs (Y.faults system.old) (Y.faults system.new)
+        (edited_by action line.now (Y.state system.old)) (trouble_status t)) }
     ensures kept { OnErr result ((Y.state system.old).is_known ≡ true → KeepsFiles (Y.state system.old) (Y.state system.new)) }
     ensures system { KeepsSystem (Y.state system.old) (Y.state system.new) }
     ensures random { (Y.state system.new).random ≡ (Y.state system.old).random }
@@ -199,6 +211,8 @@ fn make_change<'w, Y: System>(
 ) -> Result<(), Trouble<'w>>
     ensures done { OnOk result ((Y.state system.old).is_known ≡ true → IsChanged (changed_file change.entry) path.now
         (Y.state system.old) (Y.state system.new)) }
+    ensures refused { IfErr result (λ t. (Y.state system.old).is_known ≡ true → IsCaused (Y.faults system.old) (Y.faults system.new)
+        (made_of_file (changed_file change.entry) (Y.state system.old) (Some path.now)) (trouble_status t)) }
     ensures kept { OnErr result ((Y.state system.old).is_known ≡ true → KeepsFiles (Y.state system.old) (Y.state system.new)) }
     ensures system { KeepsSystem (Y.state system.old) (Y.state system.new) }
     ensures random { (Y.state system.new).random ≡ (Y.state system.old).random }
@@ -221,21 +235,39 @@ fn change_in<'w, Y: System>(
     requires { Y.Draft.has_draft draft ≡ true }
     ensures done { OnOk result ((Y.state system.old).is_known ≡ true → Y.Draft.got draft ≡ Some []
         → IsChanged (changed_file change.entry) path.now (Y.state system.old) (Y.state system.new)) }
+    ensures refused { IfErr result (λ t. (Y.state system.old).is_known ≡ true → IsCaused (Y.faults system.old) (Y.faults system.new)
+        (made_of_file (changed_file change.entry) (Y.state system.old) (Some path.now)) (trouble_status t)) }
     ensures kept { OnErr result (Y.Draft.shown draft ≡ Some ((Y.state system.old).file path.now)
         → KeepsFiles (Y.state system.old) (Y.state system.new)) }
     ensures system { KeepsSystem (Y.state system.old) (Y.state system.new) }
     ensures random { (Y.state system.new).random ≡ (Y.state system.old).random }
     ensures later { Y.faults system.old ≤ Y.faults system.new }
 {
-    match system.read_whole(alloc, Some(path), LIMIT) {
+    match read_file(alloc, system, path) {
         Ok(file) => {
             let template = template_of(&change);
             let made = changed(alloc, file, change);
             let blamed = blamed(&made, template, path);
-            save_in(alloc, system, made, blamed, path, draft)
+            save_in(alloc, system, readable(made), blamed, path, draft)
         }
         Err(trouble) => Err(give_up(alloc, system, path, draft, trouble)),
     }
+}
+
+// The whole of a file of keys. A dash is a name too.
+fn read_file<'w, Y: System>(
+    alloc: Global,
+    system: &mut Y,
+    path: &'w [u8],
+) -> Result<Vec<u8>, Trouble<'w>>
+    ensures content { IfOk result (λ file. HasContent (Y.state system.old) (Some path.now) file.items) }
+    ensures read { IfOk result (λ file. Gives (Y.state system.old) (whole_of (Y.state system.old) (Some path.now)) file.items) }
+    ensures refused { IfErr result (λ t. Fails (Y.state system.old) (Y.faults system.old) (Y.faults system.new)
+        (whole_of (Y.state system.old) (Some path.now)) t) }
+    ensures state { Y.state system.new ≡ Y.state system.old }
+    ensures later { Y.faults system.old ≤ Y.faults system.new }
+{
+    system.read_whole(alloc, Some(path), LIMIT)
 }
 
 // The template of a change, if it has one.
@@ -279,7 +311,8 @@ fn changed(alloc: Global, file: Vec<u8>, change: Change<'_>) -> Result<Bytes, Ti
 /// `convert KEYS -o OUT --format NAME`: a new file has the keyset of a file of keys, in this format.
 ///
 /// # Errors
-/// 11, 13, 14 and 30 as `show`; 12 if a file has the name, or it cannot be written; 10. No file is changed then.
+/// 11, 13, 14 and 30 as `show`. 13 also if no file of keys may be so long. 12 if a file has the name, or it cannot be written. 10.
+/// No file is changed then.
 pub fn convert<'w, Y: System, K: Sink>(
     alloc: Global,
     system: &mut Y,
@@ -288,6 +321,10 @@ pub fn convert<'w, Y: System, K: Sink>(
 ) -> Result<(), Trouble<'w>>
     ensures done { OnOk result ((Y.state system.old).is_known ≡ true → IsConverted line.now
         (Y.state system.old) (Y.state system.new) (K.got sink.old) (K.got sink.new)) }
+    ensures refused { IfErr result (λ t. (Y.state system.old).is_known ≡ true → IsRefusedAs (Y.faults system.old) (Y.faults system.new)
+        (converted_by line.now (Y.state system.old)) (trouble_status t)) }
+    ensures left { OnErr result ((Y.state system.old).is_known ≡ true → LeavesOutAs (converted_by line.now (Y.state system.old)) (named line.now.output)
+        (K.got sink.old) (K.got sink.new)) }
     ensures kept { OnErr result ((Y.state system.old).is_known ≡ true → KeepsFiles (Y.state system.old) (Y.state system.new)) }
     ensures system { KeepsSystem (Y.state system.old) (Y.state system.new) }
     ensures random { (Y.state system.new).random ≡ (Y.state system.old).random }

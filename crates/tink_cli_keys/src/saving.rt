@@ -1,25 +1,30 @@
 //! What a call made is saved: as a new file, on standard output, or in the place of a file.
 
-ghost use Rattle.std.specs.Prelude.{◌≡◌, ◌≤◌, ℕ, List, Some, None, true, false, Result, IfErr, IfSome, IsErrAnd, OnErr, OnOk};
+ghost use Rattle.std.specs.Prelude.{◌≡◌, ◌⊎◌, ◌≤◌, ◌^◌, ℕ, List, Some, None, true, false, Result, IfErr, IfSome, IsErrAnd, OnErr, OnOk, length, nat_lt};
+ghost use Rattle.std.specs.Io.KnownBytes.{Appends};
+ghost use Rattle.tink_io.specs.Written.{AppendsPrefix};
 ghost use Rattle.tink_io.specs.Told.{Answers};
 ghost use Rattle.tink_io.specs.declared.error.Kind.{Kind};
+ghost use Rattle.tink_cli_jobs.specs.Loading.{named};
 ghost use Rattle.tink_cli_jobs.specs.Outputs.{KeepsFiles, KeepsOtherFiles};
-ghost use Rattle.tink_cli_keys.specs.Saving.{IsAppended, IsSavedNew};
+ghost use Rattle.tink_cli_keys.specs.Refusing.{IsCaused, LeavesOut};
+ghost use Rattle.tink_cli_keys.specs.Saving.{IsAppended, IsPutNew, IsSavedNew, readable, short};
 ghost use Rattle.tink_system.specs.States.{IsSettled, KeepsSystem};
 ghost use Rattle.tink_system.specs.Statuses.{refusal_status, trouble_status};
 
 use std::alloc::Global;
 use tink_cli_files::save_answer;
-use tink_cli_jobs::{named, put};
-use tink_io::{Kind, Place, Sink, TinkError};
+use tink_cli_jobs::keys::LIMIT;
+use tink_cli_jobs::named;
+use tink_io::{Kind, Place, Sink, TinkError, write_all};
 use tink_proto::Bytes;
 use tink_system::{End, How, System, Trouble};
 
-/// Saves what a call made as a new file, or writes it to standard output if the name is a dash.
+/// Saves the file of keys that a call made as a new file, or writes it to standard output if the name is a dash.
 ///
 /// # Errors
-/// That of the call, of the file `blamed`. 12 if a file has the name, or it cannot be written, or standard output is a
-/// terminal. 10.
+/// That of the call, of the file `blamed`. 13 if no file of keys may be so long. 12 if a file has the name, or it cannot be
+/// written, or standard output is a terminal. 10.
 pub fn save_new<'w, Y: System, K: Sink>(
     alloc: Global,
     system: &mut Y,
@@ -30,6 +35,36 @@ pub fn save_new<'w, Y: System, K: Sink>(
 ) -> Result<(), Trouble<'w>>
     ensures done { (given : Result (List ℕ) Kind) → Answers made given → OnOk result ((Y.state system.old).is_known ≡ true
         → IsSavedNew given (Y.state system.old) (Y.state system.new) output.now (K.got sink.old) (K.got sink.new)) }
+    ensures refused { (given : Result (List ℕ) Kind) → Answers made given → IfErr result (λ t. IsCaused (Y.faults system.old)
+        (Y.faults system.new) (readable given) (trouble_status t)) }
+    ensures left { (given : Result (List ℕ) Kind) → Answers made given → OnErr result (LeavesOut (readable given) (named (Some output.now))
+        (K.got sink.old) (K.got sink.new)) }
+    ensures kept { OnErr result ((Y.state system.old).is_known ≡ true → KeepsFiles (Y.state system.old) (Y.state system.new)) }
+    ensures system { KeepsSystem (Y.state system.old) (Y.state system.new) }
+    ensures random { (Y.state system.new).random ≡ (Y.state system.old).random }
+    ensures later { Y.faults system.old ≤ Y.faults system.new }
+    ensures sink { K.same sink.old sink.new }
+{
+    let blamed = blamed_for(&made, blamed, output);
+    let made = readable(made);
+    save_readable(alloc, system, made, blamed, output, sink)
+}
+
+// The same of a file of keys that may be so long.
+fn save_readable<'w, Y: System, K: Sink>(
+    alloc: Global,
+    system: &mut Y,
+    made: Result<Bytes, TinkError>,
+    blamed: &'w [u8],
+    output: &'w [u8],
+    sink: &mut K,
+) -> Result<(), Trouble<'w>>
+    ensures done { (given : Result (List ℕ) Kind) → Answers made given → OnOk result ((Y.state system.old).is_known ≡ true
+        → IsPutNew given (Y.state system.old) (Y.state system.new) output.now (K.got sink.old) (K.got sink.new)) }
+    ensures refused { (given : Result (List ℕ) Kind) → Answers made given → IfErr result (λ t. IsCaused (Y.faults system.old)
+        (Y.faults system.new) given (trouble_status t)) }
+    ensures left { (given : Result (List ℕ) Kind) → Answers made given → OnErr result (LeavesOut given (named (Some output.now))
+        (K.got sink.old) (K.got sink.new)) }
     ensures kept { OnErr result ((Y.state system.old).is_known ≡ true → KeepsFiles (Y.state system.old) (Y.state system.new)) }
     ensures system { KeepsSystem (Y.state system.old) (Y.state system.new) }
     ensures random { (Y.state system.new).random ≡ (Y.state system.old).random }
@@ -42,6 +77,44 @@ pub fn save_new<'w, Y: System, K: Sink>(
     match system.begin(name, How::Fresh) {
         Ok(draft) => save_in(alloc, system, made, blamed, name, draft),
         Err(trouble) => Err(trouble),
+    }
+}
+
+/// The file of keys that a call made, if no file of keys that is read has more bytes.
+///
+/// # Errors
+/// That of the call; `KeysetTooLong` if it made more than 16,777,216 bytes.
+pub fn readable(made: Result<Bytes, TinkError>) -> Result<Bytes, TinkError>
+    ensures { (given : Result (List ℕ) Kind) → Answers made given → Answers result (readable given) }
+{
+    match made {
+        Ok(bytes) => short(bytes),
+        Err(e) => Err(e),
+    }
+}
+
+// Bytes that a file of keys may have.
+fn short(bytes: Bytes) -> Result<Bytes, TinkError>
+    ensures { Answers result (short bytes) }
+{
+    if is_long(&bytes) {
+        return Err(TinkError::new(Kind::KeysetTooLong));
+    }
+    Ok(bytes)
+}
+
+// Whether these are more bytes than a file of keys may have.
+fn is_long(bytes: &Bytes) -> bool
+    ensures { result ≡ nat_lt (2 ^ 24) (length bytes.now) }
+{
+    bytes.as_slice().len() as u64 > LIMIT
+}
+
+// The file that an error is of: the output if what was made for it is too long.
+fn blamed_for<'w>(made: &Result<Bytes, TinkError>, blamed: &'w [u8], output: &'w [u8]) -> &'w [u8] {
+    match made {
+        Ok(bytes) if is_long(bytes) => output,
+        _ => blamed,
     }
 }
 
@@ -62,6 +135,8 @@ pub fn save_in<'w, Y: System>(
         → Y.Draft.got draft ≡ Some before → IsAppended given before ((Y.state system.new).file name.now)) }
     ensures fresh { (given : Result (List ℕ) Kind) → Answers made given → OnOk result (Y.Draft.replaces draft ≡ false
         → IfSome (Y.Draft.shown draft) (λ file. file ≡ None)) }
+    ensures refused { (given : Result (List ℕ) Kind) → Answers made given → IfErr result (λ t. IsCaused (Y.faults system.old)
+        (Y.faults system.new) given (trouble_status t)) }
     ensures others { KeepsOtherFiles (Y.state system.old) (Y.state system.new) name.now }
     ensures kept { OnErr result (Y.Draft.shown draft ≡ Some ((Y.state system.old).file name.now)
         → KeepsFiles (Y.state system.old) (Y.state system.new)) }
@@ -85,6 +160,7 @@ pub fn give_up<'w, Y: System>(
     mut draft: Y::Draft,
     trouble: Trouble<'w>,
 ) -> Trouble<'w>
+    ensures status { (trouble_status result ≡ 10) ⊎ (trouble_status result ≡ trouble_status trouble.entry) }
     ensures kept { Y.Draft.shown draft ≡ Some ((Y.state system.old).file name.now)
         → KeepsFiles (Y.state system.old) (Y.state system.new) }
     ensures system { KeepsSystem (Y.state system.old) (Y.state system.new) }
@@ -107,6 +183,7 @@ fn end_draft<Y: System>(
 ) -> Result<(), Trouble<'static>>
     requires { Y.Draft.has_draft draft ≡ false }
     ensures settled { OnOk result (IsSettled (Y.state system.old) (Y.state system.new) name.now (Y.Draft.shown draft)) }
+    ensures want { IfErr result (λ t. trouble_status t ≡ 10) }
     ensures refused { OnErr result (Y.state system.new ≡ Y.state system.old) }
     ensures kept { Y.Draft.shown draft ≡ Some ((Y.state system.old).file name.now)
         → KeepsFiles (Y.state system.old) (Y.state system.new) }
@@ -127,6 +204,9 @@ fn put_made<'w, Y: System, K: Sink>(
 ) -> Result<(), Trouble<'w>>
     ensures done { (given : Result (List ℕ) Kind) → Answers made given → OnOk result ((before : List ℕ)
         → K.got sink.old ≡ Some before → IsAppended given before (K.got sink.new)) }
+    ensures refused { (given : Result (List ℕ) Kind) → Answers made given → IfErr result (λ t. IsCaused (Y.faults system.old)
+        (Y.faults system.new) given (trouble_status t)) }
+    ensures left { (given : Result (List ℕ) Kind) → Answers made given → OnErr result (LeavesOut given None (K.got sink.old) (K.got sink.new)) }
     ensures still { system.new ≡ system.old }
     ensures sink { K.same sink.old sink.new }
 {
@@ -138,8 +218,21 @@ fn put_made<'w, Y: System, K: Sink>(
         ));
     }
     match made {
-        Ok(bytes) => put(sink, bytes.as_slice()),
+        Ok(bytes) => put_bytes(sink, bytes.as_slice()),
         Err(e) => Err(Trouble::Refused(blamed, e.kind)),
+    }
+}
+
+// Writes to standard output. If it fails a part is written.
+fn put_bytes<K: Sink>(sink: &mut K, bytes: &[u8]) -> Result<(), Trouble<'static>>
+    ensures done { OnOk result (Appends (K.got sink.old) (K.got sink.new) bytes.now) }
+    ensures part { OnErr result (AppendsPrefix (K.got sink.old) (K.got sink.new) bytes.now) }
+    ensures refused { IfErr result (λ t. trouble_status t ≡ 12) }
+    ensures sink { K.same sink.old sink.new }
+{
+    match write_all(sink, bytes) {
+        Ok(()) => Ok(()),
+        Err(e) => Err(Trouble::Refused(b"standard output", e.kind)),
     }
 }
 

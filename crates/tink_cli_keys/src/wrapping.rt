@@ -1,10 +1,11 @@
 //! The commands that keep a file of keys under a master keyset.
 
-ghost use Rattle.std.specs.Prelude.{◌≡◌, ◌≤◌, true, IfOk, IfSome, OnErr, OnOk};
-ghost use Rattle.tink_cli_keys.specs.Wrapping.{AreSparedWords, AreWords, IsUnwrapped, IsUnwrappedBy, IsWrapped, IsWrappedBy, IsWrappedKeys};
+ghost use Rattle.std.specs.Prelude.{◌≡◌, ◌≤◌, true, false, IfOk, IfSome, OnErr, OnOk, Some};
+ghost use Rattle.tink_cli_keys.specs.Wrapping.{AreSparedWords, AreWords, IsUnwrapped, IsUnwrappedBy, IsWrapped, IsWrappedBy, IsWrappedKeys, read_twice};
 ghost use Rattle.tink_cli_files.specs.Masters.{IsMaster, MasterKeys};
 ghost use Rattle.tink_cli_jobs.specs.Loading.{IsMasterOf};
 ghost use Rattle.tink_cli_jobs.specs.Outputs.{KeepsFiles};
+ghost use Rattle.tink_cli_jobs.specs.Protecting.{is_input};
 ghost use Rattle.tink_system.specs.States.{KeepsSystem};
 
 use crate::saving::save_new;
@@ -53,6 +54,7 @@ fn words_of<'w>(line: &Line<'w>) -> Option<Words<'w>>
 /// - 34 if the master refuses;
 /// - 35 if the system gives no random bytes;
 /// - 12 if the output is the master, a file has its name, or it cannot be written;
+/// - 11 if the master and the file of keys are both standard input;
 /// - 10.
 ///
 /// No file is changed then.
@@ -131,6 +133,7 @@ fn wrap_keys<'w, Y: System, K: Sink>(
 /// - 15 to 18 if the master does not load as AEADs;
 /// - 34 if no key of the master decrypts it with these data;
 /// - 12 if the output is the master or the wrapped file, a file has its name, or it cannot be written;
+/// - 11 if the master and the wrapped file are both standard input;
 /// - 10.
 ///
 /// No file is changed then.
@@ -182,8 +185,48 @@ fn unwrap_under<'w, Y: System, K: Sink>(
     }
 }
 
-// The master of words whose output is neither the master nor the file that is read.
+// The master of words that read standard input for one thing alone, and whose output is neither the master nor the file that is
+// read.
 fn master_for<'w, Y: System>(
+    alloc: Global,
+    system: &mut Y,
+    words: Words<'w>,
+) -> Result<Master, Trouble<'w>>
+    ensures loaded { IfOk result (λ master. IsMasterOf (Y.state system.old) words.entry.master.now master) }
+    ensures spared { OnOk result ((Y.state system.old).is_known ≡ true → AreSparedWords (Y.state system.old) words.entry) }
+    ensures once { OnOk result (read_twice words.entry ≡ false) }
+    ensures state { Y.state system.new ≡ Y.state system.old }
+    ensures later { Y.faults system.old ≤ Y.faults system.new }
+{
+    match spare_input(words) {
+        Ok(()) => spared_master(alloc, system, words),
+        Err(trouble) => Err(trouble),
+    }
+}
+
+// Refuses words that read standard input for two things.
+fn spare_input<'w>(words: Words<'w>) -> Result<(), Trouble<'w>>
+    ensures once { OnOk result (read_twice words.entry ≡ false) }
+{
+    if is_input(words.master) && is_input(words.input) {
+        return Err(Trouble::Unusable(
+            b"standard input",
+            "it is named for two things and can be read for one: give a file for the other",
+            11,
+        ));
+    }
+    Ok(())
+}
+
+// Whether a name is standard input.
+fn is_input(name: &[u8]) -> bool
+    ensures { result ≡ is_input (Some name.now) }
+{
+    name == b"-".as_slice()
+}
+
+// The same, whatever is read from standard input.
+fn spared_master<'w, Y: System>(
     alloc: Global,
     system: &mut Y,
     words: Words<'w>,

@@ -1,4 +1,5 @@
 use Rattle.tink_cli_keys.proofs.SavingLemmas.{saved_file, saved_fresh, unsaved_kept}
+use Rattle.tink_cli_keys.proofs.RefusingLemmas.{of_save}
 use Rattle.tink_cli_keys.proofs.saving.save_in.Goals as goal
 
 pub returns-in-Ok-clause-done : goal.returns-in-Ok-clause-done
@@ -13,3 +14,7 @@ returns-in-Ok-clause-fresh g c = λ given answers.
 pub returns-in-Ok-clause-kept : goal.returns-in-Ok-clause-kept
 returns-in-Ok-clause-kept g c =
     unsaved_kept c.args.made c.save_answer-answer.result _ _ _ _ _ _ c.saved.result _ _ c.save_answer-answer.ensures.saves c.saved.ensures.ok c.in-Ok.ensures.kept
+
+pub returns-in-Ok-clause-refused : goal.returns-in-Ok-clause-refused
+returns-in-Ok-clause-refused g c = λ given answers.
+    of_save given c.save_answer-answer.result _ _ _ _ _ _ _ _ c.saved.result (c.save_answer-answer.ensures.saves given answers) c.saved.ensures.ok c.saved.ensures.refused

@@ -1,5 +1,5 @@
 use Rattle.tink_cli_keys.proofs.SavingLemmas.{saved_new}
-use Rattle.tink_cli_keys.proofs.saving.save_new.Goals as goal
+use Rattle.tink_cli_keys.proofs.saving.save_readable.Goals as goal
 
 pub returns-in-Ok-clause-done : goal.returns-in-Ok-clause-done
 returns-in-Ok-clause-done g c = λ given answers.
