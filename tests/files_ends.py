@@ -8,7 +8,7 @@ import stat
 import subprocess
 import time
 
-from files_lib import PROGRAM, ROOT, TEXT, check, drafts, ids, mode, read, tink, write
+from files_lib import PROGRAM, ROOT, TEXT, check, drafts, ids, mode, read, run, tink, write
 
 
 def wrong_files():
@@ -201,6 +201,19 @@ def former_words():
     check(tink("verify", mac, stdin=tink("sign", mac, stdin=TEXT)) == TEXT, "sign and verify with a keyset as a word")
     for line in ("rewrap", "sign", "verify", "range", "sign x", "range a - 1"):
         tink(*line.split(), status=2, says="usage: ")
+    # A file in the place of a keyset: the usage is that of the command over files.
+    keys = "keys.json"
+    for line, says in (
+        (f"sign {keys}", "tink sign: the option --keys is missing\nusage: tink sign "),
+        (f"verify {keys}", "tink verify: the option --keys is missing\nusage: tink verify "),
+        (f"rewrap {keys}", "tink rewrap: the option --keys is missing\nusage: tink rewrap "),
+        (f"range {keys}", "tink range: the option --keys is missing\nusage: tink range "),
+        (f"rewrap {keys} {keys}", f"tink rewrap: one word too many: {keys}\nusage: tink rewrap "),
+        (f"rotate {keys} AES128_GCM x", "tink rotate: one word too many: x\nusage: tink rotate "),
+        ("sign no-such-file", "usage: seal KEYSET "),
+    ):
+        done = run(*line.split())
+        check((done.returncode, done.stdout) == (2, b"") and done.stderr.decode().startswith(says), f"{line}: {done}")
     for line in ("rewrap -k", "sign -q", "verify --no-such", "range --start 0", "rewrap a -k b"):
         tink(*line.split(), status=2, says="usage: tink ")
 

@@ -126,7 +126,11 @@ def standard_keys():
             check(done.returncode == 11 and b"tink: standard input: " in done.stderr, f"{words}: {done}")
         for action in ("wrap", "unwrap"):
             done = run(action, "-k", "-", "-o", "both", "-", stdin=read("master.json"))
-            check(done.returncode != 0 and done.stderr.startswith(b"tink: ") and not os.path.exists("both"), f"{action}: {done}")
+            says = b"tink: standard input: it is named for two things and can be read for one: give a file for the other\n"
+            check((done.returncode, done.stderr) == (11, says) and not os.path.exists("both"), f"{action}: {done}")
+            with open("master.json", "rb") as file:
+                run(action, "-k", "-", "-o", "both", "-", stdin_file=file)
+                check(file.read() == read("master.json"), f"{action} reads nothing of standard input before it refuses")
 
 
 def mastered():
@@ -257,6 +261,39 @@ def invalid_keysets():
         for words in (("encrypt", "-k", "marked", "text"), ("keys", "marked"), ("rotate", "marked", "AES128_GCM_HKDF_4KB")):
             tink(*words, status=13, says="tink: marked: bad keyset: a byte-order mark is in front of it: save it without one\n")
         check(drafts() == [] and not os.path.exists("made"), "a refusal leaves nothing")
+
+
+def long_files():
+    """A file of keys has at most 16,777,216 bytes. No longer one is made, and each that is made is read again."""
+    most = 1 << 24
+    with a_folder("long_files"):
+        keyset = json.loads(read("keys.json"))
+        first = keyset["key"][0]["keyId"]
+        data = {"typeUrl": "type.googleapis.com/one.of.elsewhere", "value": "", "keyMaterialType": "SYMMETRIC"}
+        key = {"keyData": data, "status": "DISABLED", "keyId": first ^ 1, "outputPrefixType": "RAW"}
+
+        def compact():
+            return json.dumps({**keyset, "key": [*keyset["key"], key]}, separators=(",", ":")).encode()
+
+        data["value"] = "AAAA" * ((most - len(compact())) // 4)
+        write("long.json", compact())
+        held = read("long.json")
+        check(most - 4 < len(held) <= most, f"{len(held)} bytes")
+        check(len(tink("keys", "long.json").splitlines()) == 2, "a file of the most bytes is read")
+        for words in (("add", "long.json", "AES128_GCM_HKDF_4KB"), ("rotate", "long.json", "AES128_GCM_HKDF_4KB"), ("enable", "long.json", str(first)), ("disable", "long.json", str(first ^ 1))):
+            tink(*words, status=13, says="tink: long.json: keyset too long: ")
+            check(read("long.json") == held and drafts() == [], f"{words}: nothing has changed")
+        tink("convert", "long.json", "-o", "long.bin", "--format", "binary")
+        tink("wrap", "-k", "master.json", "-o", "wrapped.bin", "--format", "binary", "long.json")
+        for words in (("convert", "long.bin", "--format", "json"), ("wrap", "-k", "master.json", "long.bin"), ("unwrap", "-k", "master.json", "wrapped.bin")):
+            tink(*words, "-o", "made", status=13, says="tink: made: keyset too long: ")
+            check(tink(*words, "-o", "-", status=13, says="tink: -: keyset too long: ") == b"", f"{words}: nothing is written")
+            check(not os.path.exists("made") and drafts() == [], f"{words}: no file is made")
+        tink("unwrap", "-k", "master.json", "-o", "again.bin", "--format", "binary", "wrapped.bin")
+        check(read("again.bin") == read("long.bin") and len(tink("keys", "again.bin").splitlines()) == 2, "a long file in binary comes back")
+        tink("delete", "long.bin", str(first ^ 1))
+        tink("convert", "long.bin", "-o", "short.json", "--format", "json")
+        check(read("short.json") == read("keys.json"), "without its long key it is short")
 
 
 def peak(words):

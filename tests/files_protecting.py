@@ -154,11 +154,16 @@ def primitives():
         tink("rotate", "--any", "keys.json", "HMAC_SHA256_128BITTAG")
         listed = tink("keys", "keys.json").decode().splitlines()
         check(len(listed) == 2 and listed[1].endswith("HmacKey\tprimary"), f"--any: {listed}")
-        for words in (("--any", "keys.json", "AES256_GCM"), ("keys.json", "AES256_GCM", "--any"), ("-q", "new.json", "AES256_GCM_HKDF_1MB"), ("--", "new.json", "AES256_GCM_HKDF_1MB")):
+        for words in (("--any", "keys.json", "AES256_GCM"), ("keys.json", "AES256_GCM", "--any"), ("keys.json", "--any", "AES256_GCM"), ("-q", "new.json", "AES256_GCM_HKDF_1MB"), ("--", "new.json", "AES256_GCM_HKDF_1MB")):
             name = "keys.json" if "keys.json" in words else "new.json"
             known = len(ids(name)[0])
             tink("rotate", *words)
             check(len(ids(name)[0]) == known + 1, f"rotate {words}")
+        held = read("keys.json")
+        done = run("rotate", "keys.json", "--nay", "AES256_GCM")
+        check(done.returncode == 2 and done.stderr.startswith(b"tink rotate: no option is called --nay; did you mean --any?"), f"a wrong option in between: {done}")
+        tink("rotate", "keys.json", "--any", "0" * 64, status=2, says="usage: seal ")
+        check(read("keys.json") == held and drafts() == [], "wrong words change nothing")
         tink("rotate", "new.json", "AES256_GCM_HKDF_1MB")
         check(len({line.split("\t")[3] for line in tink("keys", "new.json").decode().splitlines()}) == 2, "streams of another kind are one primitive")
 

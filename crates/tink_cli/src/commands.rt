@@ -11,7 +11,7 @@ ghost use Rattle.tink_cli_words.specs.Words.{byte_words};
 
 use crate::claims::is_of_streams;
 use crate::explaining::explained;
-use crate::over_streams::run_on_streams;
+use crate::over_streams::run_claimed;
 use crate::showing;
 use crate::telling::tell_wrong;
 use std::alloc::Global;
@@ -38,6 +38,7 @@ pub fn run<Y: System, K: Sink, E: Sink>(
 ) -> u8
     ensures streams { is_of_streams (byte_words words.now) ≡ true → EndedOverStreams (byte_words words.now)
         (Y.state system.old) (Y.faults system.old) (Y.faults system.new) (K.got sink.old) (K.got sink.new) result }
+    ensures still { is_of_streams (byte_words words.now) ≡ true → Y.state system.new ≡ Y.state system.old }
     ensures unknown { is_of_streams (byte_words words.now) ≡ false → IsWrong (given (byte_words words.now)) → result ≡ 2 }
     ensures done { is_of_streams (byte_words words.now) ≡ false → result ≡ 0 → (Y.state system.old).is_known ≡ true
         → IsDoneLine (given (byte_words words.now)) (Y.state system.old) (Y.state system.new) (K.got sink.old) (K.got sink.new) }
@@ -49,7 +50,7 @@ pub fn run<Y: System, K: Sink, E: Sink>(
     ensures faults { E.same faults.old faults.new }
 {
     if is_of_streams(words) {
-        return run_on_streams(alloc, system, words, sink, faults);
+        return run_claimed(alloc, system, words, sink, faults);
     }
     match parse(words) {
         Ok(given) => match command(alloc, system, &given, sink) {

@@ -1,21 +1,74 @@
 //! The program over the standard streams.
 
-ghost use Rattle.std.specs.Prelude.{◌≡◌};
+ghost use Rattle.std.specs.Prelude.{◌≡◌, ◌≤◌, IfSome};
 ghost use Rattle.tink_cli.specs.Claims.{EndedOverStreams};
 ghost use Rattle.tink_program.specs.Program.{status_of};
+ghost use Rattle.tink_program.specs.Words.{SpellNothing};
 ghost use Rattle.tink_cli_words.specs.Forms.{words_of};
 ghost use Rattle.tink_cli_words.specs.Words.{byte_words};
 
+use crate::claims::has_no_keyset;
+use crate::telling::tell_wrong;
 use crate::texts::texts_of;
 use std::alloc::Global;
+use tink_cli_words::{Wrong, parse};
 use tink_io::Sink;
 use tink_program::program::{Outcome, program, status, tell as tell_outcome};
 use tink_system::System;
 use tink_system::trouble::tell;
 
-/// Does what the words of the program over the standard streams say, and answers the status. If a word is no UTF-8, no command is
-/// spelled.
-pub fn run_on_streams<Y: System, K: Sink, E: Sink>(
+/// Does what the words of the program over the standard streams say, and answers the status. If a file has the name that the words
+/// have in the place of a keyset, they are taken for a command over files: how that is used is written.
+pub fn run_claimed<Y: System, K: Sink, E: Sink>(
+    alloc: Global,
+    system: &mut Y,
+    words: &[Vec<u8>],
+    sink: &mut K,
+    faults: &mut E,
+) -> u8
+    ensures ended { EndedOverStreams (byte_words words.now) (Y.state system.old) (Y.faults system.old) (Y.faults system.new)
+        (K.got sink.old) (K.got sink.new) result }
+    ensures state { Y.state system.new ≡ Y.state system.old }
+    ensures sink { K.same sink.old sink.new }
+    ensures faults { E.same faults.old faults.new }
+{
+    match misplaced(system, words) {
+        Some(wrong) => tell_wrong(system, faults, wrong),
+        None => run_on_streams(alloc, system, words, sink, faults),
+    }
+}
+
+// Why words that name a file in the place of a keyset spell no command over files.
+fn misplaced<'w, Y: System>(system: &mut Y, words: &'w [Vec<u8>]) -> Option<Wrong<'w>>
+    ensures nothing { IfSome result (λ _. SpellNothing (byte_words words.now)) }
+    ensures state { Y.state system.new ≡ Y.state system.old }
+    ensures later { Y.faults system.old ≤ Y.faults system.new }
+{
+    let [_, word, ..] = words else {
+        return None;
+    };
+    if !has_no_keyset(words) || !is_file(system, word.as_slice()) {
+        return None;
+    }
+    match parse(words) {
+        Ok(_) => None,
+        Err(wrong) => Some(wrong),
+    }
+}
+
+// Whether a file has the name. Pipes and devices are not opened, and taken for none.
+fn is_file<Y: System>(system: &mut Y, name: &[u8]) -> bool
+    ensures state { Y.state system.new ≡ Y.state system.old }
+    ensures later { Y.faults system.old ≤ Y.faults system.new }
+{
+    if system.is_stream(name) {
+        return false;
+    }
+    system.open(Some(name), true).is_ok()
+}
+
+// Does what the words of the program over the standard streams say. If a word is no UTF-8, no command is spelled.
+fn run_on_streams<Y: System, K: Sink, E: Sink>(
     alloc: Global,
     system: &mut Y,
     words: &[Vec<u8>],
