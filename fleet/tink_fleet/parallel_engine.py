@@ -8,6 +8,7 @@ import sys
 import threading
 import time
 from collections.abc import Iterable, Iterator
+from itertools import chain
 
 from tink_fleet import calls
 from tink_fleet.errors import FleetError, Refused
@@ -29,6 +30,10 @@ class ParallelEngine:
         self.keys_fd = keys_fd
         self.folder = os.path.join(state, "calls")
         self.log = os.path.join(state, "engine.log")
+        # GNU parallel needs a while to start, so that one is started while the driver still looks at the work.
+        self.spare: subprocess.Popen | None = None
+        with open(self.log, "wb"):
+            pass
 
     def begin(self, fleet: str, run: str, say) -> None:
         """Ends the workers of a driver that is no more: they stop after the file that they are at."""
@@ -41,7 +46,8 @@ class ParallelEngine:
             deadline, has_said = time.monotonic() + PATIENCE_SECONDS, False
             while True:
                 try:
-                    return fcntl.flock(fd, fcntl.LOCK_EX | fcntl.LOCK_NB)
+                    fcntl.flock(fd, fcntl.LOCK_EX | fcntl.LOCK_NB)
+                    break
                 except BlockingIOError:
                     if time.monotonic() > deadline:
                         raise Refused(
@@ -53,6 +59,30 @@ class ParallelEngine:
                     time.sleep(0.1)
         finally:
             os.close(fd)
+        if self.spare is None:
+            self.spare = self.started()
+
+    def started(self) -> subprocess.Popen:
+        """GNU parallel, which waits for the numbers of calls."""
+        launcher = os.path.join(os.path.dirname(os.path.dirname(os.path.abspath(__file__))), "fleet")
+        words = ["parallel", "--plain", "-q", "--line-buffer", f"--jobs={self.slots}"]
+        words += [sys.executable, launcher, "worker", self.state, "{}"]
+        fds = () if self.keys_fd is None else (self.keys_fd,)
+        more = {} if self.keys_fd is None else {KEYS_FD: str(self.keys_fd)}
+        with open(self.log, "ab") as log:
+            return subprocess.Popen(
+                words,
+                stdin=subprocess.PIPE,
+                stdout=subprocess.PIPE,
+                stderr=log,
+                pass_fds=fds,
+                env={**os.environ, "PARALLEL_SHELL": "/bin/sh", **more},
+            )
+
+    def taken(self) -> subprocess.Popen:
+        """The GNU parallel that was started already, else a new one."""
+        spare, self.spare = self.spare, None
+        return spare or self.started()
 
     def describe(self, call: dict) -> list[dict]:
         """What the workers of this machine are like: they are all as this process."""
@@ -64,7 +94,11 @@ class ParallelEngine:
 
     def run(self, given: Iterable[dict]) -> Iterator[tuple[dict, list[dict] | None]]:
         """Does calls. Gives each with its results, in the order in which they end; None where its worker died."""
-        feeder = Feeder(self, given)
+        waiting = iter(given)
+        first = next(waiting, None)
+        if first is None:
+            return
+        feeder = Feeder(self, chain([first], waiting))
         try:
             feeder.thread.start()
             for line in feeder.running.stdout:
@@ -82,6 +116,10 @@ class ParallelEngine:
             feeder.stop()
 
     def close(self) -> None:
+        if self.spare is not None:
+            self.spare.kill()
+            self.spare.communicate()
+            self.spare = None
         shutil.rmtree(self.folder, ignore_errors=True)
 
 
@@ -95,35 +133,8 @@ class Feeder:
         self.error: BaseException | None = None
         self.room = threading.Semaphore(AHEAD * engine.slots + 8)
         self.is_stopped = False
-        self.running = self.start()
+        self.running = engine.taken()
         self.thread = threading.Thread(target=self.feed, daemon=True)
-
-    def start(self) -> subprocess.Popen:
-        engine = self.engine
-        launcher = os.path.join(os.path.dirname(os.path.dirname(os.path.abspath(__file__))), "fleet")
-        words = [
-            "parallel",
-            "--plain",
-            "-q",
-            "--line-buffer",
-            f"--jobs={engine.slots}",
-            sys.executable,
-            launcher,
-            "worker",
-            engine.state,
-            "{}",
-        ]
-        fds = () if engine.keys_fd is None else (engine.keys_fd,)
-        more = {} if engine.keys_fd is None else {KEYS_FD: str(engine.keys_fd)}
-        with open(engine.log, "wb") as log:
-            return subprocess.Popen(
-                words,
-                stdin=subprocess.PIPE,
-                stdout=subprocess.PIPE,
-                stderr=log,
-                pass_fds=fds,
-                env={**os.environ, "PARALLEL_SHELL": "/bin/sh", **more},
-            )
 
     def feed(self) -> None:
         try:

@@ -9,7 +9,7 @@ from tink_fleet.tasks import Outcome, Task, Worker, fds_of, opened, told
 # The longest output prefix and header of a stream: salt and nonce prefix are in it, so that no two streams share it.
 FRONT = 45
 MIB = 1 << 20
-LEAST_PART, MOST_PART = 16 * MIB, 256 * MIB
+LEAST_PART, MOST_PART = 16 * MIB, 512 * MIB
 
 
 @dataclass(frozen=True)
@@ -26,11 +26,14 @@ class Plan:
 
 
 def part_size(plaintext: int, slots: int, wanted: int | None) -> int:
-    """The bytes of a part: four parts for each process, in whole MiB, within limits."""
+    """The bytes of a part: as many parts for each process, in whole MiB, as keep a part within limits.
+
+    A part costs the start of a worker, so that a file that is not huge has one part for each process.
+    """
     if wanted:
         return wanted
-    even = -(-plaintext // (4 * slots))
-    return min(max(-(-even // MIB) * MIB, LEAST_PART), MOST_PART)
+    count = slots * max(1, -(-plaintext // (slots * MOST_PART)))
+    return max(-(-plaintext // (count * MIB)) * MIB, LEAST_PART)
 
 
 def ranges(plaintext: int, size: int) -> list[tuple[int, int]]:
