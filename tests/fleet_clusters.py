@@ -7,6 +7,7 @@ import subprocess
 import sys
 import tempfile
 import unittest
+from contextlib import contextmanager
 
 from fleet_lib import (
     SECONDS,
@@ -189,16 +190,22 @@ class Clusters(Targets, ClusterYard):
         """One worker sees a full disk in place of the target: what it cannot write another worker does."""
         os.mkdir(self.at("sealed"))
         full = f"mount -t tmpfs -o size=16k tmpfs '{self.at('sealed')}' && head -c 100000 /dev/zero > '{self.at('sealed', 'full')}' 2>/dev/null; exec \"$@\""
-        if subprocess.run(["unshare", "-m", "true"], capture_output=True, check=False).returncode != 0:
-            self.skipTest("a file system of its own may not be given to a worker here")
-        self.cluster.wait(WORKERS)
-        worker = self.cluster.add_worker(("unshare", "-m", "sh", "-c", full, "sh"))
-        try:
-            self.cluster.wait(WORKERS + 1)
+        with self.another_worker("unshare", "-m", "sh", "-c", full, "sh"):
             texts = self.make_texts(60, 60_000)
             sealed = self.manifest("seal.toml", operation="encrypt", source="plain", target="sealed", batch_files=2)
             self.run_all(sealed, says="60 done, 0 failed")
             self.expect_streams(sealed, texts, "sealed")
+
+    @contextmanager
+    def another_worker(self, *before: str):
+        """A worker more, which is started by these words and has a file system of its own."""
+        if subprocess.run(["unshare", "-m", "true"], capture_output=True, check=False).returncode != 0:
+            self.skipTest("a file system of its own may not be given to a worker here")
+        self.cluster.wait(WORKERS)
+        worker = self.cluster.add_worker(before)
+        try:
+            self.cluster.wait(WORKERS + 1)
+            yield
         finally:
             worker.terminate()
             worker.wait(30)
@@ -309,6 +316,16 @@ class Clusters(Targets, ClusterYard):
         write(self.at("plain/x"), b"")
         sealed = self.manifest("seal.toml", operation="encrypt", source="plain", target="sealed", keys="none")
         self.run_all(sealed, status=2, says="there is no such file")
+
+    def test_workers_with_different_keys_do_nothing(self):
+        tink("new", self.template, "-o", self.at("other"))
+        other = f"mount --bind '{self.at('other')}' '{self.at('keys')}' && exec \"$@\""
+        with self.another_worker("unshare", "-m", "sh", "-c", other, "sh"):
+            self.make_texts(3, 3000)
+            sealed = self.manifest("seal.toml", operation="encrypt", source="plain", target="sealed")
+            self.run_all(sealed, status=2, says="the workers have different primary keys")
+            self.assertFalse(os.path.exists(self.at("sealed")))
+            self.assertEqual(self.record(sealed), {})
 
     def test_a_scheduler_that_is_not_there_is_named(self):
         sealed = self.manifest("seal.toml", operation="encrypt", source="plain", target="sealed")

@@ -69,6 +69,86 @@ class Operations(Targets, ParallelYard):
         self.run_all(sealed, says="2 done, 0 failed, 3 were done before")
         self.expect_streams(sealed, texts, "sealed")
 
+    def test_a_source_of_the_same_size_that_changed_is_done_again(self):
+        texts = self.make_texts(2, 3000)
+        sealed = self.manifest("seal.toml", operation="encrypt", source="plain", target="sealed")
+        self.run_all(sealed)
+        texts["0.txt"] = texts["0.txt"][::-1]
+        write(self.at("plain", "0.txt"), texts["0.txt"])
+        self.run_all(sealed, says="1 done, 0 failed, 1 were done before")
+        self.expect_streams(sealed, texts, "sealed")
+
+    def test_a_target_that_changed_its_size_is_looked_at_again(self):
+        texts = self.make_texts(2, 3000)
+        sealed = self.manifest("seal.toml", operation="encrypt", source="plain", target="sealed")
+        self.run_all(sealed)
+        with open(self.at("sealed/0.txt.tink"), "ab") as target:
+            target.write(b"x")
+        self.run_all(sealed, status=1, says="0.txt.tink: it is there already and has not the text of")
+        self.expect_streams(
+            sealed, texts, "sealed", old={"0.txt": read(self.at("sealed/0.txt.tink"))}, all_done=False
+        )
+
+    def test_what_changes_while_it_is_read_makes_no_target(self):
+        """The source, then the file of keys, is written to by the program itself, before it ends."""
+        write(self.at("plain/x"), b"text")
+        for name in ("plain/x", "keys"):
+            script = f'#!/bin/sh\n{TINK} "$@" || exit\n[ $1 != encrypt ] || echo >> {self.at(name)}\n'
+            write(self.at("program"), script.encode())
+            os.chmod(self.at("program"), 0o700)
+            sealed = self.manifest(
+                "seal.toml", operation="encrypt", source="plain", target="sealed", program=self.at("program")
+            )
+            self.run_all(sealed, status=1, says="was changed while it was read")
+            self.assertEqual(files_below(self.at("sealed")), [])
+            self.assertEqual(self.record(sealed)["x"]["target"], "absent")
+
+    def test_the_driver_alone_appends_to_the_record(self):
+        """The record gets another name while the run goes on, so that who opens it by its path misses it."""
+        texts = self.make_texts(40, 20_000)
+        sealed = self.manifest("seal.toml", operation="encrypt", source="plain", target="sealed", batch_files=2)
+        running, record = self.start("run", sealed, *self.engine), self.at("seal.fleet/record.jsonl")
+        self.assertTrue(wait_for(lambda: lines_of(record) > 0))
+        running.send_signal(signal.SIGSTOP)
+        self.assertLess(lines_of(record), len(texts))
+        os.rename(record, self.at("moved"))
+        write(record, b"")
+        running.send_signal(signal.SIGCONT)
+        self.assertIn("40 done, 0 failed", running.communicate(timeout=SECONDS)[0])
+        self.assertEqual(read(record), b"", "another process appended to the record")
+        paths = [it["path"] for it in map(json.loads, read(self.at("moved")).splitlines()) if "path" in it]
+        self.assertEqual(sorted(paths), sorted(texts), "one line for each task")
+
+    def test_a_rewrap_that_no_record_has_is_understood(self):
+        texts = self.make_texts(3, 3000)
+        self.encrypt_all(texts)
+        tink("new", self.template, "-o", self.at("new"))
+        moved = self.manifest("move.toml", operation="rewrap", source="sealed", to_keys="new")
+        self.run_all(moved, says="3 done, 0 failed")
+        before = {name: read(self.at("sealed", f"{name}.tink")) for name in texts}
+        shutil.rmtree(self.at("move.fleet"))
+        self.run_all(moved, says="3 done, 0 failed")
+        self.expect_streams(moved, texts, "sealed", keys="new")
+        self.assertTrue(all(it["adopted"] for it in self.record(moved).values()))
+        self.assertEqual(before, {name: read(self.at("sealed", f"{name}.tink")) for name in texts})
+
+    def test_a_status_counts_what_is_left(self):
+        texts = self.make_texts(4, 3000)
+        self.encrypt_all(texts)
+        write(self.at("sealed/0.txt.tink"), read(self.at("sealed/0.txt.tink"))[:-1])
+        opened = self.manifest("open.toml", operation="decrypt", source="sealed", target="again")
+        self.run_all(opened, status=1, says="3 done, 1 failed")
+        write(self.at("sealed/late.tink"), b"x" * 1000)
+        made = json.loads(self.fleet("status", opened, "--json", status=1))
+        self.assertEqual([made[it] for it in ("done", "failed", "left", "left_bytes")], [3, 1, 1, 1000])
+        self.assertGreater(min(made["bytes_per_second"], made["files_per_second"], made["seconds_left"]), 0)
+        line = self.record(opened)["0.txt.tink"]["line"]
+        self.assertRegex(line, "^tink: .*0.txt.tink: ")
+        said = self.fleet("status", opened, status=1)
+        self.assertIn(f"FAILED   0.txt.tink: {line} (target: absent)\n", said)
+        for row in ("done     3\n", "failed   1\n", "left     1 (0.0 MB)\n", "driver   none\n", "time left "):
+            self.assertIn(row, said)
+
     def test_names_of_any_bytes_and_a_stream_without_the_suffix(self):
         texts = {"right": b"x", os.fsdecode(b"wrong\xff"): b"y"}
         for name, text in texts.items():

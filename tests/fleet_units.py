@@ -1,6 +1,8 @@
 """Parts of fleet alone: manifests, records, drafts, objects, addresses."""
 import os
 import unittest
+from contextlib import ExitStack
+from unittest.mock import patch
 
 from fleet_lib import TINK, Yard, read, tink, write
 from tink_fleet import locks, places, record
@@ -141,6 +143,25 @@ class Drafts(Yard):
             modes = [os.stat(self.at(name)).st_mode & 0o777 for name in ("there", f"fresh{number}")]
             self.assertEqual(modes, [0o640, 0o600])
             self.expect_no_drafts(self.folder)
+
+    def test_the_bytes_reach_the_disk_before_the_name(self):
+        """What the system is asked for, in its order."""
+        for number, draft in enumerate([*self.drafts(), *self.drafts()]):
+            replaces = number > 1
+            asked = []
+            write(self.at("there"), b"old")
+            with draft, ExitStack() as held:
+                for name in ("fsync", "link", "replace"):
+                    real = getattr(os, name)
+
+                    def noted(*words, name=name, real=real, **more):
+                        asked.append(name)
+                        return real(*words, **more)
+
+                    held.enter_context(patch.object(os, name, noted))
+                draft.publish(self.at("there") if replaces else self.at(f"fresh{number}"), replaces)
+            self.assertEqual(asked[0], "fsync", asked)
+            self.assertIn("replace" if replaces else "link", asked)
 
     def test_a_draft_that_is_not_published_is_gone(self):
         for draft in self.drafts():
