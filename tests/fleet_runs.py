@@ -208,6 +208,7 @@ class Operations(Targets, ParallelYard):
         status = json.loads(self.fleet("status", opened, "--json", status=1))
         self.assertEqual((status["done"], status["failed"], status["left"]), (999, 1, 0))
         self.assertEqual(list(status["failures"]), ["7/777.tink"])
+        self.assertEqual(self.record(opened)["7/777.tink"]["target"], "absent")
 
     def test_a_large_file_goes_in_parts(self):
         needs("info")
@@ -219,7 +220,8 @@ class Operations(Targets, ParallelYard):
             "open.toml", operation="decrypt", source="sealed", target="again", split_bytes=100_000, part_bytes=50_000
         )
         self.run_all(opened, says="2 done, 0 failed")
-        self.assertEqual({name: read(self.at("again", name)) for name in texts}, texts)
+        for name, text in texts.items():
+            self.assertTrue(read(self.at("again", name)) == text, f"{name}: another text")
         entry = self.record(opened)["large.tink"]
         self.assertEqual((entry["size"], entry["front"]), (300_000, read(self.at("sealed/large.tink"))[:45].hex()))
         stream = bytearray(read(self.at("sealed/large.tink")))
@@ -397,6 +399,29 @@ class Deaths(ParallelYard):
         running.send_signal(signal.SIGKILL)
         running.communicate()
         self.run_all(sealed, says=" 0 failed")
+
+    def test_a_file_at_which_each_worker_dies_is_named(self):
+        """The program kills the worker that runs it for one file: before it makes a stream, and after that."""
+        texts = self.make_texts(4, 3000)
+        self.encrypt_all(texts)
+        old = {name: read(self.at("sealed", f"{name}.tink")) for name in texts}
+        tink("new", self.template, "-o", self.at("new"))
+        for kill in ("kill -9 $PPID; exit 1", f'{TINK} "$@"; kill -9 $PPID'):
+            script = f'#!/bin/sh\ncase "$*" in *plain/0.txt|*sealed/3.txt.tink) {kill} ;; esac\nexec {TINK} "$@"\n'
+            write(self.at("program"), script.encode())
+            os.chmod(self.at("program"), 0o700)
+            sealed = self.manifest(
+                "seal.toml", operation="encrypt", source="plain", target="out", program=self.at("program")
+            )
+            self.run_all(sealed, status=1, says="0.txt: its worker died 3 times: read ")
+            self.expect_streams(sealed, texts, "out", all_done=False)
+            self.assertEqual(self.record(sealed)["0.txt"]["target"], "absent")
+            moved = self.manifest(
+                "move.toml", operation="rewrap", source="sealed", to_keys="new", program=self.at("program")
+            )
+            self.run_all(moved, status=1, says="3.txt.tink: its worker died 3 times: read ")
+            self.expect_streams(moved, texts, "sealed", keys="new", old=old, all_done=False)
+            self.assertEqual(self.record(moved)["3.txt.tink"]["target"], "old")
 
     def test_an_interrupted_driver_leaves_no_worker(self):
         texts = self.make_texts(60, 60_000)

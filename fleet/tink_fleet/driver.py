@@ -285,9 +285,15 @@ class Driver:
     def died(self, task: dict) -> Outcome:
         """The outcome of a task whose workers died at each attempt."""
         line = f"{task['source']}: its worker died {ATTEMPTS} times: read {self.manifest.state}/engine.log, or the log of the cluster, and run again"
-        there = places.size_of(task["target"] or task["source"]) is not None
-        state = "old" if task["target"] == task["source"] else "unknown" if there else "absent"
-        return Outcome(task["path"], "failed", round(time.time(), 3), 0.0, "", state, line=line)
+        return Outcome(task["path"], "failed", round(time.time(), 3), 0.0, "", self.left(task), line=line)
+
+    def left(self, task: dict) -> str:
+        """What a worker that died left under the target's name: it may have published before it died."""
+        place = task["target"] or task["source"]
+        if places.size_of(place) is None:
+            return "absent"
+        rests = places.identity(place)[-2:] == (task["size"], task["mtime"])
+        return "old" if rests and task["target"] in (None, task["source"]) else "unknown"
 
     def add(self, outcomes: list[Outcome]) -> None:
         if outcomes:
