@@ -34,6 +34,9 @@ for it in python3 /usr/bin/python3; do
 done
 folder=$(mktemp -d "$base/fleet-bench-XXXXXX")
 trap 'rm -rf "$folder"' EXIT
+# Python keeps what it compiled, as it does for a user.
+unset PYTHONDONTWRITEBYTECODE
+export PYTHONPYCACHEPREFIX=$folder/compiled
 TINK=$(readlink -f -- "$program") "$python" - "$root" "$size" "$folder" <<'PY'
 import json, os, resource, shutil, subprocess, sys, tempfile, time
 

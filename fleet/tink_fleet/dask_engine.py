@@ -93,6 +93,9 @@ class DaskEngine:
                 has_said = True
             time.sleep(0.2)
 
+    def prepare(self) -> None:
+        """Its workers run already."""
+
     def wait_for_a_worker(self) -> None:
         deadline = time.monotonic() + CONNECT_SECONDS
         while not self.client.nthreads() and time.monotonic() < deadline:

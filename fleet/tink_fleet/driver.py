@@ -27,6 +27,9 @@ class Engine(Protocol):
     def begin(self, fleet: str, run: str, say: Callable[[str], None]) -> None:
         ...
 
+    def prepare(self) -> None:
+        ...
+
     def describe(self, call: dict) -> list[dict]:
         ...
 
@@ -117,6 +120,7 @@ class Driver:
 
     def work(self) -> None:
         self.engine.begin(self.record.history.fleet, self.record.run, self.say)
+        self.engine.prepare()
         if not self.record.history.has_ended:
             self.sweep()
         self.job = self.agreed(self.new_job())

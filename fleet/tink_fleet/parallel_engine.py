@@ -30,7 +30,6 @@ class ParallelEngine:
         self.keys_fd = keys_fd
         self.folder = os.path.join(state, "calls")
         self.log = os.path.join(state, "engine.log")
-        # GNU parallel needs a while to start, so that one is started while the driver still looks at the work.
         self.spare: subprocess.Popen | None = None
         with open(self.log, "wb"):
             pass
@@ -59,8 +58,10 @@ class ParallelEngine:
                     time.sleep(0.1)
         finally:
             os.close(fd)
-        if self.spare is None:
-            self.spare = self.started()
+
+    def prepare(self) -> None:
+        """Starts a GNU parallel, which takes a while, before the calls are known."""
+        self.spare = self.spare or self.started()
 
     def started(self) -> subprocess.Popen:
         """GNU parallel, which waits for the numbers of calls."""
@@ -80,7 +81,7 @@ class ParallelEngine:
             )
 
     def taken(self) -> subprocess.Popen:
-        """The GNU parallel that was started already, else a new one."""
+        """The GNU parallel that is prepared, else a new one."""
         spare, self.spare = self.spare, None
         return spare or self.started()
 
@@ -117,7 +118,7 @@ class ParallelEngine:
 
     def close(self) -> None:
         if self.spare is not None:
-            self.spare.kill()
+            # Without a line it ends by itself, and with it what it started.
             self.spare.communicate()
             self.spare = None
         shutil.rmtree(self.folder, ignore_errors=True)
