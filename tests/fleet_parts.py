@@ -1,5 +1,6 @@
 """One large file in parts: the text equals the sequential one over the edges of parts and segments."""
 import os
+from unittest.mock import patch
 
 from fleet_lib import TINK, Yard, needs, read, tink, write
 from tink_fleet import parts
@@ -84,6 +85,46 @@ class Parts(Yard):
         self.sealed(text[::-1])
         with self.assertRaisesRegex(TaskError, "changed while it was read"):
             parts.part(self.worker, task, plan, 10000, 10000)
+
+    def program(self, script: str) -> Worker:
+        """A worker whose program is this script, which has the real one in TINK."""
+        write(self.at("program"), f"#!/bin/sh\nTINK={TINK}\n{script}\n".encode())
+        os.chmod(self.at("program"), 0o700)
+        return Worker(Job("f", "r", "decrypt", self.at("program"), self.at("keys"), None, "", None, None))
+
+    def test_a_stream_that_changes_before_or_while_a_part_is_read_is_refused_as_changed(self):
+        task = self.sealed(self.random.randbytes(20000))
+        plan, stream = parts.probe(self.worker, task), read(self.at("sealed"))
+        worker = self.program(f'"$TINK" "$@" || exit; [ $1 != range ] || touch -d @1 {self.at("sealed")}')
+        with self.assertRaisesRegex(TaskError, "changed while it was read"):
+            parts.part(worker, task, plan, 0, 10000)
+        write(self.at("sealed"), b"no stream" + stream)
+        with self.assertRaisesRegex(TaskError, "changed while it was read"):
+            parts.part(self.worker, task, plan, 0, 10000)
+
+    def test_a_part_that_is_too_short_is_refused(self):
+        task = self.sealed(self.random.randbytes(20000))
+        plan = parts.probe(self.worker, task)
+        worker = self.program('[ $1 = range ] || exec "$TINK" "$@"; printf 123')
+        with self.assertRaisesRegex(TaskError, "3 bytes of a range of 10000 were written"):
+            parts.part(worker, task, plan, 0, 10000)
+
+    def test_each_part_reaches_the_disk_before_the_draft_gets_its_name(self):
+        task, synced, real = self.sealed(self.random.randbytes(20000)), [], os.fsync
+
+        def noted(fd: int) -> None:
+            synced.append(os.readlink(f"/proc/self/fd/{fd}"))
+            real(fd)
+
+        with patch.object(os, "fsync", noted):
+            plan = parts.probe(self.worker, task)
+            for start in (10000, 0):
+                synced.clear()
+                parts.part(self.worker, task, plan, start, 10000)
+                self.assertIn(plan.draft, synced)
+            synced.clear()
+            parts.finish(self.worker, task, plan, Outcome("sealed", "done", 0.0, 0.0, "", "new"))
+        self.assertEqual(synced[-1], self.folder, "the folder reaches the disk too")
 
     def test_a_worker_that_died_after_the_end_is_understood(self):
         task = self.sealed(b"x" * 9000)
