@@ -1,5 +1,6 @@
 """One large file in parts: the text equals the sequential one over the edges of parts and segments."""
 import os
+from dataclasses import replace
 from unittest.mock import patch
 
 from fleet_lib import TINK, Yard, needs, read, tink, write
@@ -101,6 +102,15 @@ class Parts(Yard):
         write(self.at("sealed"), b"no stream" + stream)
         with self.assertRaisesRegex(TaskError, "changed while it was read"):
             parts.part(self.worker, task, plan, 0, 10000)
+
+    def test_a_target_that_appears_meanwhile_is_kept(self):
+        task = replace(self.sealed(b"x" * 9000), replaces=False)
+        plan = parts.probe(self.worker, task)
+        parts.part(self.worker, task, plan, 0, 9000)
+        write(self.at("out"), b"theirs")
+        with self.assertRaisesRegex(TaskError, "another process made it meanwhile"):
+            parts.finish(self.worker, task, plan, Outcome("sealed", "done", 0.0, 0.0, "", "new"))
+        self.assertEqual(read(self.at("out")), b"theirs")
 
     def test_a_part_that_is_too_short_is_refused(self):
         task = self.sealed(self.random.randbytes(20000))

@@ -103,6 +103,19 @@ class Operations(Targets, ParallelYard):
             self.assertEqual(files_below(self.at("sealed")), [])
             self.assertEqual(self.record(sealed)["x"]["target"], "absent")
 
+    def test_a_target_that_appears_meanwhile_is_kept(self):
+        """The program itself makes the target, before it ends."""
+        write(self.at("plain/x"), b"text")
+        script = f'#!/bin/sh\n{TINK} "$@" || exit\n[ $1 != encrypt ] || echo theirs > {self.at("sealed/x.tink")}\n'
+        write(self.at("program"), script.encode())
+        os.chmod(self.at("program"), 0o700)
+        sealed = self.manifest(
+            "seal.toml", operation="encrypt", source="plain", target="sealed", program=self.at("program")
+        )
+        self.run_all(sealed, status=1, says="x.tink: it is there already and has not the text of")
+        self.assertEqual(read(self.at("sealed/x.tink")), b"theirs\n")
+        self.assertEqual(self.record(sealed)["x"]["target"], "old")
+
     def test_the_driver_alone_appends_to_the_record(self):
         """The record gets another name while the run goes on, so that who opens it by its path misses it."""
         texts = self.make_texts(40, 20_000)
