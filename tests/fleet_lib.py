@@ -100,9 +100,12 @@ class Yard(unittest.TestCase):
         return self.at(name)
 
     def start(self, *words: str, **more) -> subprocess.Popen:
-        return subprocess.Popen(
+        made = subprocess.Popen(
             [sys.executable, FLEET, *words], stdout=subprocess.PIPE, stderr=subprocess.PIPE, text=True, **more
         )
+        # It may be stopped where a test fails.
+        self.addCleanup(made.kill)
+        return made
 
     def fleet(self, *words: str, status: int = 0, says: str = "", **more) -> str:
         """Runs fleet, and compares its status and a part of what it says."""
