@@ -1,11 +1,16 @@
 # `make install PREFIX=/usr/local` puts the proved program, a binary that needs the C library alone, into PREFIX/bin,
 # its completions and man page into PREFIX/share, and the proved library for C with its header into PREFIX/lib and
 # PREFIX/include. `make deb` makes a package of the same for Debian.
+# CPU=x86-64-v2 or CPU=x86-64-v3 chooses the program. Without it `make` takes the one for x86-64-v3 if this processor has
+# its instructions. `make deb` takes the one for x86-64-v2, since a package goes to other machines. The library for C has
+# no instructions beyond x86-64-v2.
 PREFIX ?= /usr/local
+CPU ?=
 BIN = $(DESTDIR)$(PREFIX)/bin
 SHARE = $(DESTDIR)$(PREFIX)/share
 ZSH = $(SHARE)/zsh/site-functions
-PROGRAM = crates/tink_tool/out/tink_tool
+BUILD = TINK_BUILD=1 CPU="$(CPU)" ./tink
+PROGRAM = $(shell $(BUILD))
 DEB = tink-proved_1.0_amd64.deb
 INCLUDE = $(DESTDIR)$(PREFIX)/include
 LIBRARIES = $(DESTDIR)$(PREFIX)/lib
@@ -22,7 +27,7 @@ LDCONFIG ?= $(if $(DESTDIR),:,PATH="$$PATH:/sbin" ldconfig)
 .PHONY: all lib install install-lib uninstall deb check check-fleet check-bindings
 
 all:
-	./tink --version
+	$(BUILD)
 
 # The library for C, proved: libtink.a and libtink.so. Of libtink.so only names that begin with tink_ are visible.
 lib:
@@ -60,7 +65,7 @@ uninstall:
 # A package of Debian, which installs into /usr.
 deb:
 	rm -rf out/deb
-	$(MAKE) install DESTDIR="$(CURDIR)/out/deb" PREFIX=/usr \
+	$(MAKE) install DESTDIR="$(CURDIR)/out/deb" PREFIX=/usr CPU="$(or $(filter x86-64-v%,$(CPU)),x86-64-v2)" \
 		ZSH="$(CURDIR)/out/deb/usr/share/zsh/vendor-completions"
 	install -d out/deb/DEBIAN out/deb/usr/share/doc/tink-proved
 	install -m 644 LICENSE out/deb/usr/share/doc/tink-proved/copyright
