@@ -4,13 +4,11 @@
 # docs/BENCHMARKS.md says what is measured. First proves and builds what is due. It needs gcc and python3.
 set -euo pipefail
 root=$(dirname -- "$(dirname -- "$(readlink -f -- "${BASH_SOURCE[0]}")")")
-status=0
-"$root/tink" seal </dev/null >&2 || status=$?
-((status == 2))
+program=$(TINK_BUILD=1 "$root/tink")
 folder=$(mktemp -d)
 trap 'rm -rf "$folder"' EXIT
 gcc -O1 -shared -fPIC -Wall -o "$folder/words.so" "$root/benchmarks/words.c" -ldl
-python3 - "$root/crates/tink_tool/out/tink_tool" "${1:-5}" "$folder" <<'PY'
+python3 - "$program" "${1:-5}" "$folder" <<'PY'
 import os, subprocess, sys, time
 
 tool, rounds, folder = sys.argv[1], int(sys.argv[2]), sys.argv[3]

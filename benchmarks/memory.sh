@@ -4,10 +4,8 @@
 # with the text. docs/BENCHMARKS.md says what is measured. First proves and builds what is due.
 set -euo pipefail
 root=$(dirname -- "$(dirname -- "$(readlink -f -- "${BASH_SOURCE[0]}")")")
-status=0
-"$root/tink" seal </dev/null >&2 || status=$?
-((status == 2))
-python3 - "$root/crates/tink_tool/out/tink_tool" "$root/examples" <<'PY'
+program=$(TINK_BUILD=1 "$root/tink")
+python3 - "$program" "$root/examples" <<'PY'
 import hashlib, re, subprocess, sys, threading, time
 
 tool, examples = sys.argv[1:]

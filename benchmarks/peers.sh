@@ -12,9 +12,7 @@ for it in aes-0.6 hmac-0.12 sha2-0.10; do
         exit 0
     fi
 done
-status=0
-"$root/tink" seal </dev/null >&2 || status=$?
-((status == 2))
+program=$(TINK_BUILD=1 "$root/tink")
 folder=$(mktemp -d)
 trap 'rm -rf "$folder"' EXIT
 mkdir -p "$folder/peer/src" "$folder/peer/.cargo"
@@ -103,7 +101,7 @@ fn main() -> io::Result<()> {
 }
 RUST
 (cd "$folder/peer" && cargo build --release --offline >&2)
-python3 - "$root/crates/tink_tool/out/tink_tool" "$folder/peer/target/release/peer" "${1:-3}" "$folder" <<'PY'
+python3 - "$program" "$folder/peer/target/release/peer" "${1:-3}" "$folder" <<'PY'
 import hashlib, resource, subprocess, sys
 
 tool, peer, rounds, folder = sys.argv[1], sys.argv[2], int(sys.argv[3]), sys.argv[4]

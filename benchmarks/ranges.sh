@@ -4,10 +4,10 @@
 # docs/BENCHMARKS.md says what is measured. First proves and builds what is due. It needs python3 and 3 GB of disk.
 set -euo pipefail
 root=$(dirname -- "$(dirname -- "$(readlink -f -- "${BASH_SOURCE[0]}")")")
-"$root/tink" --version >&2
+program=$(TINK_BUILD=1 "$root/tink")
 folder=$(mktemp -d)
 trap 'rm -rf "$folder"' EXIT
-python3 - "$root/crates/tink_tool/out/tink_tool" "${1:-3}" "$folder" <<'PY'
+python3 - "$program" "${1:-3}" "$folder" <<'PY'
 import os, random, resource, subprocess, sys
 
 tink, rounds, folder = sys.argv[1], int(sys.argv[2]), sys.argv[3]

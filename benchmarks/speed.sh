@@ -7,18 +7,21 @@ set -euo pipefail
 root=$(dirname -- "$(dirname -- "$(readlink -f -- "${BASH_SOURCE[0]}")")")
 hasher=$root/crates/bench_speed/out/bench_speed
 
-# Messages of the build go to standard error. With no words the tool prints how it is used.
-status=0
-"$root/tink" seal </dev/null >&2 || status=$?
-((status == 2))
+# Messages of the build go to standard error. Both programs are for the same processor.
+program=$(TINK_BUILD=1 "$root/tink")
+words=()
+if [[ $program == */x86-64-v3/* ]]; then
+    hasher=${program%/*}/bench_speed words=(--cpu x86-64-v3)
+fi
 if [[ ! -x $hasher || -n $(find "$root/crates.txt" "$root/crates/bench_speed" \
     -name out -prune -o -newer "$hasher" -print -quit) ]]; then
     rm -f "$hasher"
-    (cd "$root/crates/bench_speed" && rt run </dev/null >&2)
+    (cd "$root/crates/bench_speed" && rt run "${words[@]}" </dev/null >&2)
+    [[ -x $hasher ]] || mv "$root/crates/bench_speed/out/bench_speed" "$hasher"
 fi
 folder=$(mktemp -d)
 trap 'rm -rf "$folder"' EXIT
-python3 - "$root/crates/tink_tool/out/tink_tool" "$hasher" "${1:-3}" "$folder" <<'PY'
+python3 - "$program" "$hasher" "${1:-3}" "$folder" <<'PY'
 import hashlib, os, resource, shutil, subprocess, sys, time
 
 tool, hasher, rounds, folder = sys.argv[1], sys.argv[2], int(sys.argv[3]), sys.argv[4]
