@@ -2,23 +2,11 @@
 # Times the kit's SHA-256, sealing, opening and moving streams side by side, over texts of 16 and 64 MiB, under keys of
 # both kinds, and what OpenSSL does without the processor's instructions for AES and SHA: the best of three rounds,
 # or of as many as the first word says. docs/BENCHMARKS.md says what is measured. First proves and builds what
-# is due. It needs python3; without openssl its lines are left out.
+# is due. It needs python3; without openssl its lines are left out. CPU names the processor, as for ./tink.
 set -euo pipefail
 root=$(dirname -- "$(dirname -- "$(readlink -f -- "${BASH_SOURCE[0]}")")")
-hasher=$root/crates/bench_speed/out/bench_speed
-
-# Messages of the build go to standard error. Both programs are for the same processor.
-program=$(TINK_BUILD=1 "$root/tink")
-words=()
-if [[ $program == */x86-64-v3/* ]]; then
-    hasher=${program%/*}/bench_speed words=(--cpu x86-64-v3)
-fi
-if [[ ! -x $hasher || -n $(find "$root/crates.txt" "$root/crates/bench_speed" \
-    -name out -prune -o -newer "$hasher" -print -quit) ]]; then
-    rm -f "$hasher"
-    (cd "$root/crates/bench_speed" && rt run "${words[@]}" </dev/null >&2)
-    [[ -x $hasher ]] || mv "$root/crates/bench_speed/out/bench_speed" "$hasher"
-fi
+. "$root/benchmarks/programs"
+built_for
 folder=$(mktemp -d)
 trap 'rm -rf "$folder"' EXIT
 python3 - "$program" "$hasher" "${1:-3}" "$folder" <<'PY'
