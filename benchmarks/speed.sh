@@ -1,8 +1,9 @@
 #!/usr/bin/env bash
 # Times the kit's SHA-256, sealing, opening and moving streams side by side, over texts of 16 and 64 MiB, under keys of
-# both kinds, and what OpenSSL does without the processor's instructions for AES and SHA: the best of three rounds,
-# or of as many as the first word says. docs/BENCHMARKS.md says what is measured. First proves and builds what
-# is due. It needs python3; without openssl its lines are left out. CPU names the processor, as for ./tink.
+# both kinds, and what OpenSSL does without the processor's instructions for AES and SHA. All figures are by processor
+# time, the least of three rounds, or of as many as the first word says. docs/BENCHMARKS.md says what is measured.
+# First proves and builds what is due. CPU names the processor, as for ./tink. It needs python3; without openssl its
+# lines are left out.
 set -euo pipefail
 root=$(dirname -- "$(dirname -- "$(readlink -f -- "${BASH_SOURCE[0]}")")")
 . "$root/benchmarks/programs"
@@ -10,12 +11,12 @@ built_for
 folder=$(mktemp -d)
 trap 'rm -rf "$folder"' EXIT
 python3 - "$program" "$hasher" "${1:-3}" "$folder" <<'PY'
-import hashlib, os, resource, shutil, subprocess, sys, time
+import hashlib, os, resource, shutil, subprocess, sys
 
 tool, hasher, rounds, folder = sys.argv[1], sys.argv[2], int(sys.argv[3]), sys.argv[4]
 SEED, MIB = bytes(range(32)).hex(), 1 << 20
 TEMPLATES = [f"AES{size}_{kind}_{segment}" for kind in ("CTR_HMAC_SHA256", "GCM_HKDF") for size in (128, 256) for segment in ("4KB", "1MB")]
-best, worked = {}, {}
+best = {}
 
 
 def out(*words, text=None, **env):
@@ -28,24 +29,23 @@ def processor_time():
 
 
 def timed(name, words, file):
-    """Runs the words with standard output dropped, and keeps the least time under the name: by the wall clock, and of the processor."""
+    """Runs the words with standard output dropped, and keeps the least processor time under the name."""
     with open(file, "rb") as text:
-        start, before = time.perf_counter(), processor_time()
+        before = processor_time()
         subprocess.run(words, stdin=text, stdout=subprocess.DEVNULL, stderr=subprocess.DEVNULL, check=True)
-        took, work = time.perf_counter() - start, processor_time() - before
+        took = processor_time() - before
     best[name] = min(took, best.get(name, took))
-    worked[name] = min(work, worked.get(name, work))
 
 
-def seal(template):
+def seal_of(template):
     return [tool, "seal", keys[template], "-", SEED]
 
 
-def open_(template):
+def open_of(template):
     return [tool, "open", keys[template], "-"]
 
 
-def rewrap(template):
+def rewrap_of(template):
     return [tool, "rewrap", keys[template], "-", keys[template], "aa", SEED]
 
 
@@ -57,9 +57,9 @@ for size in (16, 64):
         it.write(text)
     assert out(hasher, text=text).decode().split()[0] == hashlib.sha256(text).hexdigest()
     for template in TEMPLATES:
-        stream = out(*seal(template), text=text)
-        assert out(*open_(template), text=stream) == text
-        assert out(*open_(template)[:-1], "aa", text=out(*rewrap(template), text=stream)) == text
+        stream = out(*seal_of(template), text=text)
+        assert out(*open_of(template), text=stream) == text
+        assert out(*open_of(template)[:-1], "aa", text=out(*rewrap_of(template), text=stream)) == text
         with open(f"{folder}/{size}.{template}", "wb") as it:
             it.write(stream)
 open(f"{folder}/0", "wb").close()
@@ -69,12 +69,12 @@ for _ in range(rounds):
     for size in (16, 64):
         timed(f"sha.{size}", [hasher], f"{folder}/{size}")
         for template in TEMPLATES:
-            timed(f"seal.{template}.{size}", seal(template), f"{folder}/{size}")
-            timed(f"open.{template}.{size}", open_(template), f"{folder}/{size}.{template}")
-            timed(f"rewrap.{template}.{size}", rewrap(template), f"{folder}/{size}.{template}")
+            timed(f"seal.{template}.{size}", seal_of(template), f"{folder}/{size}")
+            timed(f"open.{template}.{size}", open_of(template), f"{folder}/{size}.{template}")
+            timed(f"rewrap.{template}.{size}", rewrap_of(template), f"{folder}/{size}.{template}")
 for _ in range(50):
     timed("nothing", ["true"], f"{folder}/0")
-    timed("empty", seal(TEMPLATES[0]), f"{folder}/0")
+    timed("empty", seal_of(TEMPLATES[0]), f"{folder}/0")
 
 
 def speed(name):
@@ -96,18 +96,26 @@ for template in TEMPLATES:
 print("\n| keys, 64 MiB, processor time | seal, s | rewrap, s | speed of a rewrap as a part of a seal's |")
 print("|---|---|---|---|")
 for template in TEMPLATES:
-    seal_work, rewrap_work = (worked[f"{way}.{template}.64"] for way in ("seal", "rewrap"))
-    print(f"| {template} | {seal_work:.2f} | {rewrap_work:.2f} | {seal_work / rewrap_work:.2f} |")
-print(f"\nA seal of no text takes {best['empty'] * 1000:.2f} ms, a program that does nothing {best['nothing'] * 1000:.2f} ms.")
+    seal, rewrap = (best[f"{way}.{template}.64"] for way in ("seal", "rewrap"))
+    print(f"| {template} | {seal:.2f} | {rewrap:.2f} | {seal / rewrap:.2f} |")
+print(f"\nThe programs are for {'x86-64-v3' if 'x86-64-v3' in tool else 'x86-64-v2'}. A seal of no text takes {best['empty'] * 1000:.2f} ms, a program that does nothing {best['nothing'] * 1000:.2f} ms.")
 
 if shutil.which("openssl"):
     # No AES, no carry-less products, no SHA by instructions of the processor.
     plain = {"OPENSSL_ia32cap": "~0x200000200000000:~0x20000000"}
 
     def openssl(cipher, size):
-        words = ["openssl", "speed", "-elapsed", "-mr", "-seconds", "1", "-bytes", str(size), "-evp", cipher]
-        line = [it for it in out(*words, **plain).decode().split("\n") if it.startswith("+F:")][-1]
-        return float(line.split(":")[-1]) / 1e6
+        """MB/s of a second's calls by the processor time of the process, less that of a start: the best of the rounds."""
+        speeds = []
+        for _ in range(rounds):
+            start = processor_time()
+            out("openssl", "version", **plain)
+            before = processor_time()
+            lines = out("openssl", "speed", "-mr", "-seconds", "1", "-bytes", str(size), "-evp", cipher, **plain).decode().split("\n")
+            took = processor_time() - before - (before - start)
+            calls = int(next(it for it in lines if it.startswith("+R:")).split(":")[1])
+            speeds.append(calls * size / took / 1e6)
+        return max(speeds)
 
     hashed = openssl("sha256", 4096)
     print("\n| OpenSSL without the processor's instructions, 4,096 bytes a call | MB/s | seal under the same cipher as a part of it |")
