@@ -10,7 +10,8 @@ BIN = $(DESTDIR)$(PREFIX)/bin
 SHARE = $(DESTDIR)$(PREFIX)/share
 ZSH = $(SHARE)/zsh/site-functions
 BUILD = TINK_BUILD=1 CPU="$(CPU)" ./tink
-PROGRAM = $(shell $(BUILD))
+# A command of the shell, so that nothing is built before a recipe needs it.
+PROGRAM = "$$($(BUILD))"
 DEB = tink-proved_1.0_amd64.deb
 INCLUDE = $(DESTDIR)$(PREFIX)/include
 LIBRARIES = $(DESTDIR)$(PREFIX)/lib
