@@ -111,7 +111,8 @@ if shutil.which("openssl"):
             start = processor_time()
             out("openssl", "version", **plain)
             before = processor_time()
-            lines = out("openssl", "speed", "-mr", "-seconds", "1", "-bytes", str(size), "-evp", cipher, **plain).decode().split("\n")
+            words = ["openssl", "speed", "-mr", "-seconds", "1", "-bytes", str(size), "-evp", cipher]
+            lines = subprocess.run(words, stdout=subprocess.PIPE, stderr=subprocess.STDOUT, text=True, check=True, env={**os.environ, **plain}).stdout.split("\n")
             took = processor_time() - before - (before - start)
             calls = int(next(it for it in lines if it.startswith("+R:")).split(":")[1])
             speeds.append(calls * size / took / 1e6)
