@@ -1,35 +1,80 @@
-"""wrong_bodies.py: reads what `rt ci` or `rt must-fail` prints, passes it on, and counts by what each wrong body was refused."""
+"""wrong_bodies.py: reads what `rt ci` or `rt must-fail` prints, passes it on, and counts the wrong bodies by what refused each.
+
+contract: the search found no proof of a goal of the contract.
+answer:   what is written for such a goal no longer fits: its answer, or the invariant of a loop before it.
+proof:    only the proof failed: a removed name, a lemma, a limit of the prover, a place or a number out of range.
+open:     not refused, or not tried.
+
+`python3 -m doctest tests/wrong_bodies.py` checks the rule on lines that the toolchain printed.
+"""
 import re
 import sys
 
 EDIT = re.compile(r"(?:rt: )?must-fail (\S+\.edit): (.*)")
-# A goal of the source: what a function ensures, or what a call in it requires.
-GOAL = re.compile(r"refused, as it must be: (?:note: )?(?:\./)?(?:src|specs)/")
+REFUSED = "refused, as it must be"
+# What is not proved, at a line of the source; the goal's name comes last, and may be cut off.
+OPEN_GOAL = re.compile(r": note: (?:\./)?(?:src|specs)/\S+: it is not proved that (.*)")
+# An answer of a goal that antt refuses, with the goal's name.
+ANSWER = re.compile(r": (?:note: )?(?:\./)?proofs/\S*Answers\.antt:\S+ error: `([^`]+)`: ")
+# A goal's name says what it is of: what is returned, what a call requires, what a type holds.
+OF_CONTRACT = re.compile(r"returns(-|$)|invariant_of-|.+-requires(-|$)|requires(-|$)")
+# The index of a list, which is a call of std.
+OF_INDEX = re.compile(r"(.*-)?index(_mut)?(-.*)?-requires(-|$)")
+OF_LOOP = re.compile(r".+-(init|preserved)(-|$)")
+# The same at a line of the source, in the check's words.
+SAID_OF_CONTRACT = re.compile(r"what the function ensures|what `(?!index)[^`]*` requires|what the trait object requires|the struct's ghost fields|the `invariant`")
+SAID_OF_LOOP = re.compile(r"the invariant ")
+
+
+def of_goal(goal):
+    """What refused an edit if the written answer of this goal no longer fits."""
+    if OF_INDEX.match(goal):
+        return "proof"
+    return "answer" if OF_CONTRACT.match(goal) or OF_LOOP.match(goal) else "proof"
 
 
 def why(said):
-    """Why an edit was refused, or how it failed."""
-    if GOAL.match(said):
+    """What refused an edit, by what is said of it.
+
+    >>> why("refused, as it must be: note: src/lib.rt:11:1: it is not proved that what the function ensures holds when it returns (`returns`)")
+    'contract'
+    >>> why("refused, as it must be: ./proofs/places/take_out/Answers.antt:5:13: error: `returns`: as printed, the two types differ only where one has `c.retain")
+    'answer'
+    >>> why("refused, as it must be: note: src/lib.rt:9:1: it is not proved that the subtraction does not go below 0 (`overflow_sub-n`)")
+    'proof'
+    >>> why("refused, as it must be (only because a proof file names what the edit took away, so this says little of the contract: change a value and keep")
+    'proof'
+    >>> why("NOT REFUSED: the crate is still proved with this edit")
+    'open'
+    """
+    if not said.startswith(REFUSED):
+        return "open"
+    said = said[len(REFUSED) :]
+    goal = OPEN_GOAL.match(said)
+    if goal and SAID_OF_CONTRACT.match(goal[1]):
         return "contract"
-    if said.startswith("refused"):
-        return "proof"
-    return "open"
+    if goal and SAID_OF_LOOP.match(goal[1]):
+        return "answer"
+    answer = ANSWER.match(said)
+    return of_goal(answer[1]) if answer else "proof"
 
 
 def main():
-    found = {"contract": [], "proof": [], "open": []}
+    found = {"contract": [], "answer": [], "proof": [], "open": []}
     for line in sys.stdin:
         print(line, end="", flush=True)
         edit = EDIT.match(line)
         if edit:
             found[why(edit[2])].append(edit[1])
+    for name in found["answer"]:
+        print(f"refused by a written answer: {name}")
     for name in found["proof"]:
         print(f"refused by its proof alone: {name}")
     for name in found["open"]:
         print(f"not refused, or not tried: {name}")
     counts = ", ".join(f"{len(names)} {kind}" for kind, names in found.items())
     print(f"wrong bodies by what refused them: {counts}")
-    sys.exit(0 if found["contract"] and not found["proof"] and not found["open"] else 1)
+    sys.exit(1 if found["proof"] or found["open"] or not (found["contract"] or found["answer"]) else 0)
 
 
 if __name__ == "__main__":
