@@ -2,15 +2,17 @@
 
 contract: the search found no proof of a goal of the contract.
 answer:   what is written for such a goal no longer fits: its answer, or the invariant of a loop before it.
-proof:    only the proof failed: a removed name, a lemma, a limit of the prover, a place or a number out of range.
+proof:    only the proof failed: a removed name, a lemma, a limit of the prover, a place or a number out of range. So too if
+          the answer speaks of a value before a call that the edit added: a right body with this call fails there as well.
 open:     not refused, or not tried.
 
 `python3 -m doctest tests/wrong_bodies.py` checks the rule on lines that the toolchain printed.
 """
+import pathlib
 import re
 import sys
 
-EDIT = re.compile(r"(?:rt: )?must-fail (\S+\.edit): (.*)")
+EDIT = re.compile(r"(?:rt: )?must-fail ((\S+)/(\S+\.edit)): (.*)")
 REFUSED = "refused, as it must be"
 # What is not proved, at a line of the source; the goal's name comes last, and may be cut off.
 OPEN_GOAL = re.compile(r": note: (?:\./)?(?:src|specs)/\S+: it is not proved that (.*)")
@@ -24,6 +26,9 @@ OF_LOOP = re.compile(r".+-(init|preserved)(-|$)")
 # The same at a line of the source, in the check's words.
 SAID_OF_CONTRACT = re.compile(r"what the function ensures|what `(?!index)[^`]*` requires|what the trait object requires|the struct's ghost fields|the `invariant`")
 SAID_OF_LOOP = re.compile(r"the invariant ")
+# What is wanted of a value after a call.
+AFTER_CALL = re.compile(r"where one has `c\.(\w+)(?:-[\w-]+)?\.new\b")
+CALL = re.compile(r"(\w+)\(")
 
 
 def of_goal(goal):
@@ -33,13 +38,24 @@ def of_goal(goal):
     return "answer" if OF_CONTRACT.match(goal) or OF_LOOP.match(goal) else "proof"
 
 
-def why(said):
-    """What refused an edit, by what is said of it.
+def added_calls(edit):
+    """The calls that an edit adds to the body."""
+    if not edit.is_file():
+        return set()
+    lines = edit.read_text(encoding="utf-8").split("\n")
+    calls = {part: {name for line in lines if line.startswith(part) for name in CALL.findall(line)} for part in ("old:", "new:")}
+    return calls["new:"] - calls["old:"]
+
+
+def why(said, added=frozenset()):
+    """What refused an edit, by what is said of it and the calls that it adds.
 
     >>> why("refused, as it must be: note: src/lib.rt:11:1: it is not proved that what the function ensures holds when it returns (`returns`)")
     'contract'
     >>> why("refused, as it must be: ./proofs/places/take_out/Answers.antt:5:13: error: `returns`: as printed, the two types differ only where one has `c.retain")
     'answer'
+    >>> why("refused, as it must be: ./proofs/places/take_out/Answers.antt:5:13: error: `returns`: where one has `c.retain.new.self.items`", {"retain"})
+    'proof'
     >>> why("refused, as it must be: note: src/lib.rt:9:1: it is not proved that the subtraction does not go below 0 (`overflow_sub-n`)")
     'proof'
     >>> why("refused, as it must be (only because a proof file names what the edit took away, so this says little of the contract: change a value and keep")
@@ -55,8 +71,10 @@ def why(said):
         return "contract"
     if goal and SAID_OF_LOOP.match(goal[1]):
         return "answer"
-    answer = ANSWER.match(said)
-    return of_goal(answer[1]) if answer else "proof"
+    answer, after = ANSWER.match(said), AFTER_CALL.search(said)
+    if not answer or after and after[1] in added:
+        return "proof"
+    return of_goal(answer[1])
 
 
 def main():
@@ -65,7 +83,8 @@ def main():
         print(line, end="", flush=True)
         edit = EDIT.match(line)
         if edit:
-            found[why(edit[2])].append(edit[1])
+            added = added_calls(pathlib.Path("crates", edit[2], "must-fail", edit[3]))
+            found[why(edit[4], added)].append(edit[1])
     for name in found["answer"]:
         print(f"refused by a written answer: {name}")
     for name in found["proof"]:
