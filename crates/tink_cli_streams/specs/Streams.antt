@@ -1,9 +1,11 @@
 -- What the commands over streams and tokens have done.
-use Rattle.std.specs.Prelude.{◌≡◌, ℕ, List, [], false, Option, Some, None, Ok, option_map}
+use Rattle.std.specs.Prelude.{◌≡◌, ◌⊎◌, ℕ, List, [], false, Option, Some, None, Ok, option_map}
 use Rattle.tink_cli_words.specs.LineRead.{LineRead}
 use Rattle.tink_cli_words.specs.declared.form.Action.{Action}
 use Rattle.tink_cli_words.specs.declared.form.Action.TheVariants as actions
+use Rattle.tink_io.specs.Faults.{Rose}
 use Rattle.tink_io.specs.Outside.{Outside}
+use Rattle.tink_run.specs.Run.{CanOpen}
 use Rattle.tink_run.specs.declared.report.Command.TheVariants.{Open, Seal}
 use Rattle.tink_run.specs.declared.report.Report.{Report}
 use Rattle.tink_cli_files.specs.Tasks.{IsDone}
@@ -81,3 +83,15 @@ pub record IsChecked (line : LineRead) (s : SystemState) : Type 0 where
   pub text : List ℕ
   pub read : content s (named line.first) ≡ Some text
   pub opened : IsOpened keyset (data_of line.aad) text
+
+-- the keyset that the words name loads, and the input is a stream of its chosen key with the data of the words
+pub record IsOpenable (line : LineRead) (s : SystemState) : Type 0 where
+  pub keyset : List ℕ
+  pub keys : IsKeysetOf line s line.keys keyset
+  pub text : List ℕ
+  pub read : content s (named line.first) ≡ Some text
+  pub can : CanOpen keyset (data_of line.aad) text
+
+-- there is no memory, or a call of the system failed
+abbrev pub MayFail : ℕ → ℕ → ℕ → Type 0
+MayFail before now status = (status ≡ 10) ⊎ Rose before now

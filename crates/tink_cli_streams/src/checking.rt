@@ -1,8 +1,15 @@
 //! The command that opens a whole stream and writes nothing.
 
-ghost use Rattle.std.specs.Prelude.{◌≡◌, ◌≤◌, ℕ, List, Some, true, OnOk, option_map};
-ghost use Rattle.tink_cli_streams.specs.Streams.{IsChecked, IsOpened};
-ghost use Rattle.tink_system.specs.States.{known_content};
+ghost use Rattle.std.specs.Prelude.{◌≡◌, ◌≤◌, ℕ, List, Some, true, false, IfErr, None, OnOk, option_map};
+ghost use Rattle.std.specs.declared.option.Option.{Option};
+ghost use Rattle.tink_cli_jobs.specs.Loading.{named};
+ghost use Rattle.tink_cli_jobs.specs.Protecting.{names_twice};
+ghost use Rattle.tink_cli_streams.specs.Streams.{IsChecked, IsMade, IsOpenable, IsOpened, MayFail};
+ghost use Rattle.tink_cli_words.specs.LineRead.{LineRead};
+ghost use Rattle.tink_cli_words.specs.declared.form.Action.TheVariants.{Decrypt};
+ghost use Rattle.tink_run.specs.Run.{CanOpen};
+ghost use Rattle.tink_system.specs.States.{SystemState, content, known_content};
+ghost use Rattle.tink_system.specs.Statuses.{trouble_status};
 
 use crate::performing::ended;
 use std::alloc::Global;
@@ -15,16 +22,28 @@ use tink_io::{Discard, Draws};
 use tink_run::report::Command;
 use tink_system::{System, Trouble};
 
+/// A stream that `check` opens, or that `decrypt` decrypts to standard output, is `IsOpenable`. So if `decrypt` returns 0,
+/// `check` does too, if no call of the system fails and there is memory.
+pub fn law_checked_is_decrypted()
+    ensures checked { (line : LineRead) (s : SystemState) → IsChecked line s → IsOpenable line s }
+    ensures decrypted { (line : LineRead) (old new : SystemState) (got : List ℕ) (got_after : Option (List ℕ)) → named line.output ≡ None
+        → IsMade Decrypt line old new (Some got) got_after → IsOpenable line old }
+{}
+
 /// `check`: the whole input is opened under the keyset and the associated data that the words name, and nothing is written.
 ///
 /// # Errors
-/// Those of `decrypt`, and 11 if standard input is named for two things.
+/// Those of `decrypt` but 12.
 pub fn check<'w, Y: System>(
     alloc: Global,
     system: &mut Y,
     line: &Line<'w>,
 ) -> Result<(), Trouble<'w>>
     ensures done { OnOk result ((Y.state system.old).is_known ≡ true → IsChecked line.now (Y.state system.old)) }
+
+    // If the keyset loads and the input is a stream, the answer is Ok, there is no memory, or a call of the system failed.
+    ensures succeeds { IfErr result (λ t. (Y.state system.old).is_known ≡ true → IsOpenable line.now (Y.state system.old)
+        → names_twice line.now ≡ false → MayFail (Y.faults system.old) (Y.faults system.new) (trouble_status t)) }
     ensures state { Y.state system.new ≡ Y.state system.old }
     ensures later { Y.faults system.old ≤ Y.faults system.new }
 {
@@ -50,6 +69,9 @@ fn check_under<'w, Y: System>(
     ensures done { OnOk result ((Y.state system.old).is_known ≡ true → (text : List ℕ)
         × (known_content (Y.state system.old) (option_map (λ n. n.now) job.now.input) ≡ Some text)
         × IsOpened keyset.now job.now.aad.now text) }
+    ensures succeeds { IfErr result (λ t. (Y.state system.old).is_known ≡ true → (text : List ℕ)
+        → content (Y.state system.old) (option_map (λ n. n.now) job.now.input) ≡ Some text → CanOpen keyset.now job.now.aad.now text
+        → MayFail (Y.faults system.old) (Y.faults system.new) (trouble_status t)) }
     ensures state { Y.state system.new ≡ Y.state system.old }
     ensures later { Y.faults system.old ≤ Y.faults system.new }
 {
@@ -68,6 +90,8 @@ fn check_all<'w, Y: System>(
     input: &mut Y::Input,
 ) -> Result<(), Trouble<'w>>
     ensures done { OnOk result ((text : List ℕ) → Y.Input.left input.old ≡ Some text → IsOpened keyset.now job.now.aad.now text) }
+    ensures succeeds { IfErr result (λ t. (text : List ℕ) → Y.Input.left input.old ≡ Some text
+        → CanOpen keyset.now job.now.aad.now text → trouble_status t ≡ 10) }
     ensures still { system.new ≡ system.old }
 {
     let mut draws = Draws::new(Vec::new(alloc));
