@@ -24,7 +24,7 @@ SHARED = [
 # These have folders of their own.
 ALONE = [
     files_words.messages, files_words.help_pages, files_words.names, files_more.templates, files_more.added, files_more.listings,
-    files_more.standard_keys, files_more.invalid_keysets, files_more.long_files, files_more.memory, files_more.mastered, files_more.checked, files_protecting.descriptors, files_protecting.keys_as_output,
+    files_more.standard_keys, files_more.invalid_keysets, files_more.long_files, files_more.memory, files_more.mastered, files_more.checked, files_protecting.descriptors, files_protecting.keys_as_output, files_protecting.apart,
     files_protecting.primitives, files_protecting.modes, files_protecting.links, files_signals.ended_by_signals, files_signals.leftovers,
     files_signals.writers_at_once, files_faults.few_bytes,
 ]

@@ -145,6 +145,68 @@ def keys_as_output():
         check(read("own") == TEXT, "a file onto itself")
 
 
+def redirected(words, source, output, flags):
+    """A run whose standard input is a file, and whose standard output goes to a file that is opened so."""
+    ends = [os.open(source, os.O_RDONLY), os.open(output, flags)]
+    try:
+        return subprocess.run([PROGRAM, *words], stdin=ends[0], stdout=ends[1], stderr=subprocess.PIPE, timeout=300)
+    finally:
+        for end in ends:
+            os.close(end)
+
+
+def apart():
+    """A file that is read is refused, if standard output, or a draft that is taken away, would change it."""
+    with a_folder("apart"):
+        before = all_of()
+        says = b"standard output goes to this file"
+        for flags in (os.O_WRONLY | os.O_APPEND, os.O_RDWR):
+            for words, source, output in (
+                (("encrypt", "-k", "keys.json", "text"), "text", "keys.json"),
+                (("encrypt", "-k", "-", "text"), "keys.json", "keys.json"),
+                (("encrypt", "-k", "wrapped.json", "--master", "master.json", "text"), "text", "master.json"),
+                (("encrypt", "-k", "keys.json", "text"), "sealed", "text"),
+                (("encrypt", "-k", "keys.json"), "text", "text"),
+                (("encrypt", "-k", "keys.json", "/dev/stdin"), "text", "text"),
+                (("decrypt", "-k", "keys.json", "sealed"), "text", "sealed"),
+                (("range", "-k", "keys.json", "--start", "0", "--length", "9", "sealed"), "text", "sealed"),
+                (("rewrap", "-k", "keys.json", "-t", "new.json", "sealed"), "text", "new.json"),
+            ):
+                done = redirected(words, source, output, flags)
+                check(done.returncode == 11 and says in done.stderr, f"{words} < {source} >> {output}: {done}")
+                check(all_of() == before, f"{words} < {source} >> {output}: a file has changed")
+        # Keys from standard input: their file is not the output.
+        for words, source, output in (
+            (("encrypt", "-k", "-", "text"), "keys.json", "keys.json"),
+            (("rewrap", "-k", "keys.json", "-t", "-", "sealed"), "new.json", "new.json"),
+            (("encrypt", "-k", "wrapped.json", "--master", "-", "text"), "master.json", "master.json"),
+        ):
+            with open(source, "rb") as file:
+                done = run(*words, "-o", output, stdin_file=file)
+            check(done.returncode == 12 and done.stderr.startswith(f"tink: {output}: ".encode()), f"{words} -o {output} < {source}: {done}")
+            check(all_of() == before, f"{words} -o {output} < {source}: a file has changed")
+        # A file that has the name of a draft: as keys it is refused, and a text stays.
+        for number in (".tink.part", ".tink-1.part", ".tink-9.part"):
+            name = f"out{number}"
+            os.rename("keys.json", name)
+            for words in (("encrypt", "-k", name, "text"), ("rewrap", "-k", name, "-t", "new.json", "sealed"), ("rewrap", "-k", "new.json", "-t", name, "sealed"), ("wrap", "-k", "master.json", name), ("convert", "--format", "binary", name)):
+                done = run(*words, "-o", "out")
+                check(done.returncode == 12 and not os.path.exists("out"), f"{words} -o out: {done}")
+                check(read(name) == before["keys.json"], f"{words} -o out: the keys are gone")
+            os.rename(name, "keys.json")
+            os.rename("text", name)
+            tink("encrypt", "-k", "keys.json", "-o", "out", name)
+            check(os.path.exists(name) and tink("decrypt", "-k", "keys.json", "out") == TEXT, f"a text that is named {name}")
+            os.rename(name, "text")
+            os.unlink("out")
+            os.rename("sealed", name)
+            check(tink("range", "-k", "keys.json", "-o", "out", "--start", "5", "--length", "9", name) == b"" and read("out") == TEXT[5:14], f"a range of {name}")
+            check(os.path.exists(name), f"a range takes {name} away")
+            os.rename(name, "sealed")
+            os.unlink("out")
+        check(all_of() == before, "files that are apart")
+
+
 def primitives():
     with a_folder("primitives"):
         held = read("keys.json")

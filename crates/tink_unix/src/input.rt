@@ -4,6 +4,7 @@ ghost use Rattle.std.specs.Prelude.{◌≡◌, None, ⊤, IfErr};
 ghost use Rattle.std.specs.Io.{ReadsAtMost};
 ghost use Rattle.tink_unix.specs.OfStatus.{IsOfStatus};
 
+use crate::apart::{IS_OUTPUT, is_input_output, is_output, lock};
 use crate::refusals::{unread, unreadable};
 use std::fs::{File, OpenFile};
 use std::io;
@@ -57,7 +58,7 @@ impl Input {
         ensures { IfErr result (IsOfStatus 11) }
     {
         let (from, total) = match name {
-            None => (From::Input(rt.stdin()), None),
+            None => (from_input(rt, b"standard input")?, None),
             Some(name) => from_of(rt, name)?,
         };
         Ok(Input {
@@ -80,6 +81,16 @@ impl Input {
     }
 }
 
+// Standard input, if standard output does not go to the same file.
+fn from_input<'w>(rt: HostRuntime, name: &'w [u8]) -> Result<From, Trouble<'w>>
+    ensures { IfErr result (IsOfStatus 11) }
+{
+    if is_input_output(&rt) {
+        return Err(unread(name, IS_OUTPUT));
+    }
+    Ok(From::Input(rt.stdin()))
+}
+
 // The source behind a name, and its size if it is a regular file.
 fn from_of<'w>(rt: HostRuntime, name: &'w [u8]) -> Result<(From, Option<u64>), Trouble<'w>>
     ensures { IfErr result (IsOfStatus 11) }
@@ -89,7 +100,7 @@ fn from_of<'w>(rt: HostRuntime, name: &'w [u8]) -> Result<(From, Option<u64>), T
         Err(code) => return Err(unreadable(name, code)),
     };
     match standard_of(&rt, text) {
-        Some(Standard::Input) => return Ok((From::Input(rt.stdin()), None)),
+        Some(Standard::Input) => return Ok((from_input(rt, name)?, None)),
         _ => {}
     }
     let file = match File::open(&rt, text) {
@@ -98,7 +109,11 @@ fn from_of<'w>(rt: HostRuntime, name: &'w [u8]) -> Result<(From, Option<u64>), T
     };
     match file.metadata() {
         Ok(found) if found.is_dir() => Err(unread(name, "it is a folder")),
-        Ok(found) if found.is_file() => Ok((From::File(file), Some(found.len()))),
+        Ok(found) if is_output(&rt, &found) => Err(unread(name, IS_OUTPUT)),
+        Ok(found) if found.is_file() => {
+            lock(&file);
+            Ok((From::File(file), Some(found.len())))
+        }
         Ok(_) => Ok((From::File(file), None)),
         Err(e) => Err(unreadable(name, code_of(e))),
     }

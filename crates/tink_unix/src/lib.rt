@@ -1,6 +1,7 @@
 //! The real system for the commands over files: the edge that is trusted.
 #![tactic(auto)]
 
+mod apart;
 mod draft;
 mod input;
 mod object;

@@ -3,6 +3,7 @@
 ghost use Rattle.std.specs.Prelude.{◌≡◌, ◌≤◌, ◌<◌, ◌-◌, ⊤, length, None, IfOk, IfErr};
 ghost use Rattle.tink_unix.specs.OfStatus.{IsOfStatus};
 
+use crate::apart::{IS_OUTPUT, is_output, lock};
 use crate::refusals::{unread, unreadable};
 use std::fs;
 use std::fs::{File, OpenFile};
@@ -47,6 +48,7 @@ impl Object {
         };
         // A pipe is not opened: that would wait for its writer.
         match fs::metadata(&rt, text) {
+            Ok(found) if is_output(&rt, &found) => return Err(unread(name, IS_OUTPUT)),
             Ok(found) if found.is_file() => {}
             Ok(_) => {
                 return Err(unread(
@@ -60,6 +62,7 @@ impl Object {
             Ok(file) => file,
             Err(e) => return Err(unreadable(name, code_of(e))),
         };
+        lock(&file);
         let size = match file.metadata() {
             Ok(found) => found.len(),
             Err(e) => return Err(unreadable(name, code_of(e))),

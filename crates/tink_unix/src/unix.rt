@@ -4,6 +4,7 @@ ghost use Rattle.std.specs.Prelude.{◌≡◌, ◌≤◌, None, IfOk, IfErr, len
 ghost use Rattle.tink_unix.specs.OfStatus.{IsOfReading, IsOfStatus};
 ghost use Rattle.tink_unix.specs.Unknown.{unknown_state};
 
+use crate::apart::{FileId, id_at, id_of, is_draft_of, is_draft_read, is_input, is_same};
 use crate::draft;
 use crate::draft::Draft;
 use crate::input::Input;
@@ -12,9 +13,8 @@ use crate::output::{Stream, Way, Written};
 use crate::refusals::{unreadable, unwritable, unwritten};
 use std::alloc::Global;
 use std::fs;
-use std::fs::{Metadata, OpenFile, OpenOptions};
+use std::fs::{OpenFile, OpenOptions};
 use std::io::IsTerminal;
-use std::os::unix::fs::MetadataExt;
 use std::random::RandomSource;
 use tink_io::{Draws, Kind, Source};
 use tink_system::{End, How, System, Trouble};
@@ -30,6 +30,10 @@ const PART: usize = 8_192;
 pub struct Unix {
     rt: HostRuntime,
     faults: u64,
+    // Whether standard input was read as a file of keys.
+    has_keys: bool,
+    // The last file that was read whole.
+    read: Option<FileId>,
 }
 
 impl Unix {
@@ -37,7 +41,12 @@ impl Unix {
     pub fn new(rt: &HostRuntime) -> Unix
         ensures { result.faults ≡ 0 }
     {
-        Unix { rt: *rt, faults: 0 }
+        Unix {
+            rt: *rt,
+            faults: 0,
+            has_keys: false,
+            read: None,
+        }
     }
 }
 
@@ -62,6 +71,10 @@ impl System for Unix {
         name: Option<&'w [u8]>,
         most: u64,
     ) -> Result<Vec<u8>, Trouble<'w>> {
+        match name {
+            Some(name) => self.read = id_at(&self.rt, name),
+            None => self.has_keys = true,
+        }
         whole_of(self.rt, alloc, name, most)
     }
 
@@ -87,6 +100,18 @@ impl System for Unix {
     }
 
     fn begin<'w>(&mut self, name: &'w [u8], how: How) -> Result<Draft, Trouble<'w>> {
+        if self.has_keys && is_input(&self.rt, name) {
+            return Err(unwritten(
+                name,
+                "the keys are read from this file, by standard input: give another name",
+            ));
+        }
+        if is_draft_read(&self.rt, name, self.read) {
+            return Err(unwritten(
+                name,
+                "the file that is read has the name of its draft: rename that file, or give another name",
+            ));
+        }
         draft::begin(&self.rt, name, how)
     }
 
@@ -266,21 +291,18 @@ fn is_stream(rt: &HostRuntime, name: &[u8]) -> bool {
     }
 }
 
-// Whether two names are of one file.
+// Whether two names are of one file, or the second is that of a draft of the first, which would be taken away.
 fn are_one(rt: &HostRuntime, name: &[u8], other: &[u8]) -> bool {
     let (name, other) = match (text_of(name), text_of(other)) {
         (Ok(name), Ok(other)) => (name, other),
         _ => return name == other,
     };
     match (fs::metadata(rt, name), fs::metadata(rt, other)) {
-        (Ok(one), Ok(two)) => is_same(&one, &two),
+        (Ok(one), Ok(two)) => is_same(&one, &two) || is_draft_of(rt, name, id_of(&two)),
+        (Err(_), Ok(two)) => is_draft_of(rt, name, id_of(&two)),
         (Err(_), Err(_)) => lead_to_one(rt, name, other),
         _ => false,
     }
-}
-
-fn is_same(one: &Metadata, two: &Metadata) -> bool {
-    one.ino() == two.ino() && one.dev() == two.dev()
 }
 
 // Whether two names that no file has lead to one name in one folder.
