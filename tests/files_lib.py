@@ -20,13 +20,6 @@ def check(holds, what):
         print("FAILED:", what, flush=True)
 
 
-def known_fault(holds, what):
-    """A check that does not hold yet. It is printed, and fails once it holds: then it becomes a check."""
-    check(not holds, f"no longer a fault: {what}")
-    if not holds:
-        print("known fault:", what, flush=True)
-
-
 def count():
     return CHECKS
 

@@ -3,7 +3,7 @@ import json
 import os
 import subprocess
 
-from files_lib import PROGRAM, TEXT, a_folder, all_of, check, drafts, ids, known_fault, mode, read, run, tink, write
+from files_lib import PROGRAM, TEXT, a_folder, all_of, check, drafts, ids, mode, read, run, tink, write
 
 PREFIXES = {"tink": "TINK", "raw": "RAW", "legacy": "LEGACY", "crunchy": "CRUNCHY"}
 SEGMENT = 4096
@@ -320,12 +320,10 @@ def memory():
         for count in (1000, 20_000):
             many = [{**keyset["key"][0], "keyId": number + 1} for number in range(count)]
             write("many.json", json.dumps({"primaryKeyId": 1, "key": many}).encode())
-            for words in (("keys", "many.json"), ("encrypt", "-k", "many.json", "-o", "made", "small")):
-                status, most = peak(words)
-                size = os.path.getsize("many.json")
-                what = f"{words} with {count} keys: status {status}, {most} bytes of {size}"
-                check(status == 0 and most - least <= 24 * size, what)
-                if (words[0], count) == ("encrypt", 20_000):
-                    known_fault(most - least <= 16 * size, what)
-                else:
-                    check(most - least <= 16 * size, what)
+            tink("convert", "many.json", "-o", "many.bin", "--format", "binary")
+            for name in ("many.json", "many.bin"):
+                for words in (("keys", name), ("encrypt", "-k", name, "-o", "made", "small")):
+                    status, most = peak(words)
+                    size = os.path.getsize(name)
+                    check(status == 0 and most - least <= 16 * size, f"{words} with {count} keys: status {status}, {most} bytes of {size}")
+            os.unlink("many.bin")
