@@ -3,6 +3,7 @@ import os
 import sys
 import traceback
 
+import files_changing
 import files_ends
 import files_faults
 import files_keys
@@ -23,13 +24,13 @@ SHARED = [
 ]
 # These have folders of their own.
 ALONE = [
-    files_words.messages, files_words.help_pages, files_words.names, files_more.templates, files_more.added, files_more.listings,
+    files_words.messages, files_words.mistakes, files_words.help_pages, files_words.names, files_more.templates, files_more.added, files_more.listings,
     files_more.standard_keys, files_more.invalid_keysets, files_more.long_files, files_more.memory, files_more.mastered, files_more.checked, files_protecting.descriptors, files_protecting.keys_as_output, files_protecting.apart,
     files_protecting.primitives, files_protecting.modes, files_protecting.links, files_signals.ended_by_signals, files_signals.leftovers,
-    files_signals.writers_at_once, files_faults.few_bytes,
+    files_signals.writers_at_once, files_changing.shrinking, files_faults.few_bytes,
 ]
 if files_faults.has_strace():
-    ALONE += [files_faults.no_links, files_faults.faults]
+    ALONE += [files_faults.no_links, files_faults.faults, files_faults.signals_at_calls]
 else:
     print("no strace here: calls of the system are not made to fail")
 ALONE += [files_streams.large, files_ends.documents]

@@ -218,11 +218,11 @@ def former_words():
         tink(*line.split(), status=2, says="usage: tink ")
 
 
-def on_terminal(words, data):
-    """What the program writes where standard output and error are a terminal."""
+def on_terminal(words, data, more=""):
+    """What the program writes where standard output and error are a terminal. `more` redirects them."""
     child, terminal = pty.fork()
     if child == 0:
-        os.execv("/bin/sh", ["sh", "-c", f'cat {data} | "$0" "$@"', PROGRAM, *words])
+        os.execv("/bin/sh", ["sh", "-c", f'cat {data} 2>/dev/null | "$0" "$@" {more}', PROGRAM, *words])
     shown = b""
     try:
         while piece := os.read(terminal, 65536):
@@ -233,15 +233,34 @@ def on_terminal(words, data):
     return shown
 
 
+def terminals_by_name(words, data):
+    """A terminal is one by each of its names, also if standard output goes elsewhere."""
+    for name, link in (("tty link", "/dev/tty"), ("stdout link", "/proc/self/fd/1"), ("link of link", "stdout link")):
+        if not os.path.islink(name):
+            os.symlink(link, name)
+    for name in ("/dev/stdout", "/dev/stderr", "/dev/fd/1", "/proc/self/fd/1", "/dev/tty", "tty link", "stdout link", "link of link"):
+        shown = on_terminal([*words, "-o", name], data)
+        says = f"tink: {name}: it is a terminal, and ciphertext is no text: name a file, or force it by --force"
+        check(says.encode() in shown and len(shown) < 300, f"{words} -o {name} on a terminal: {shown[:200]}")
+        check(len(on_terminal([*words, "--force", "-o", name], data)) >= len(TEXT), f"{words} -o {name} --force")
+    shown = on_terminal([*words, "-o", "/dev/tty"], data, ">gone 2>&1")
+    check(shown == b"" and b"/dev/tty: it is a terminal" in read("gone"), f"{words} -o /dev/tty elsewhere: {shown[:200]}")
+    check(on_terminal([*words, "-q", "-o", "/dev/stdout"], data, ">gone") == b"" and len(read("gone")) >= len(TEXT), f"{words} -o /dev/stdout >gone")
+    os.remove("gone")
+
+
 def terminals():
     tink("encrypt", "-k", "keys.json", "-o", "sealed", "text")
     check(b"the first line\r\nand the second" in on_terminal(["decrypt", "-k", "keys.json"], "sealed"), "a plaintext on a terminal")
+    for name in ("/dev/stdout", "/dev/tty"):
+        check(b"the first line\r\nand the second" in on_terminal(["decrypt", "-k", "keys.json", "-o", name], "sealed"), f"a plaintext on {name}")
     ranged = on_terminal(["range", "-q", "-k", "keys.json", "--start", "4", "--length", "5", "sealed"], "/dev/null")
     check(ranged == b"first", f"a range on a terminal: {ranged}")
     for words, data in ((("encrypt", "-k", "keys.json"), "text"), (("rewrap", "-k", "keys.json", "-t", "later.json"), "sealed")):
         shown = on_terminal(list(words), data)
         check(b"standard output: it is a terminal, and ciphertext is no text" in shown and len(shown) < 200, f"ciphertext on a terminal: {shown[:200]}")
         check(len(on_terminal([*words, "--force"], data)) >= len(TEXT), f"{words} --force")
+        terminals_by_name(words, data)
     for words in (["new", "AES128_GCM", "-o", "-"], ["unwrap", "-k", "master.json", "--aad", "host", "-o", "-", "keys.json.wrapped"], ["convert", "keys.json", "-o", "-", "--format", "json"]):
         shown = on_terminal(words, "/dev/null")
         check(b"standard output: it is a terminal, and keys are not shown on one" in shown and b"{" not in shown, f"keys on a terminal: {shown[:200]}")

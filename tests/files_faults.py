@@ -113,7 +113,8 @@ COMMANDS = [
 ]
 
 
-def one_fault(words, output, is_whole, before, call, number, error, counts):
+def reset(output, before):
+    """The files as they were before the first command."""
     for name in drafts():
         os.remove(name)
     for name, data in before.items():
@@ -121,9 +122,18 @@ def one_fault(words, output, is_whole, before, call, number, error, counts):
     os.chmod("out", 0o640)
     if output not in before and output and os.path.exists(output):
         os.remove(output)
+
+
+def shown():
+    """All files but drafts."""
+    return {name: data for name, data in all_of().items() if name not in drafts()}
+
+
+def one_fault(words, output, is_whole, before, call, number, error, counts):
+    reset(output, before)
     done = faulty(words, f"{call}:error={error}:when={number}")
     what = f"{words[0]}{' --no-clobber' if '--no-clobber' in words else ''}: {call} {number} fails by {error}"
-    after = {name: data for name, data in all_of().items() if name not in drafts()}
+    after = shown()
     # A program that `rt try` made has lines of its own checks.
     text = re.sub(r"(?m)^==\d+==.*\n", "", done.stderr.decode(errors="replace"))
     counts[done.returncode] = counts.get(done.returncode, 0) + 1
@@ -142,9 +152,42 @@ def one_fault(words, output, is_whole, before, call, number, error, counts):
     check(error != "EINTR" or call not in ("read", "write", "pread64") or done.returncode == 0, f"{what}: {done}")
     check(done.stdout == b"", f"{what}: {done}")
     if drafts():
+        check(call not in ("unlink", "unlinkat") or ".part: this draft is left, since it cannot be removed (" in text, f"{what}: no line names the draft: {text!r}")
         again = run(*words)
         check(again.returncode in (0, 12) and drafts() == [], f"{what}: a draft stays after the next run: {again} {drafts()}")
         check(call in ("unlink", "unlinkat", "rename", "renameat", "renameat2", "statx", "newfstatat", "lstat", "fstat", "stat", "openat", "open", "flock"), f"{what}: a draft is left")
+
+
+def one_signal(words, output, is_whole, before, call, number):
+    reset(output, before)
+    done = faulty(words, f"{call}:signal=SIGTERM:when={number}")
+    what = f"{words[0]}{' --no-clobber' if '--no-clobber' in words else ''}: SIGTERM at {call} {number}"
+    after = shown()
+    check(done.returncode in (0, -15), f"{what}: {done}")
+    check({**after, output: None} == {**before, output: None}, f"{what}: another file has changed: {done}")
+    changed = after.get(output) != before.get(output)
+    check(not changed or is_whole(), f"{what}: the file is not whole")
+    check(changed or output is None or done.returncode != 0, f"{what}: status 0 and no file")
+    check(all(mode(name) in (0o600, 0o640) for name in drafts()), f"{what}: who may read a draft")
+    again = run(*words)
+    check(drafts() == [] and (again.returncode == 0 or changed and again.returncode == 12), f"{what}: the next run: {again} {drafts()}")
+    check(output is None or is_whole() or words[0] == "rotate", f"{what}: the next run's file")
+
+
+def signals_at_calls():
+    """A run that a signal ends at any call of the system leaves the old file or the new one, and the next run succeeds."""
+    tried = 0
+    with a_folder("signals at calls"):
+        write("out", b"what was there")
+        os.symlink("out", "link")
+        before = all_of()
+        for words, output, is_whole in COMMANDS:
+            reset(output, before)
+            for call, (front, all_calls) in calls_of(words).items():
+                for number in range(front + 1, all_calls + 1):
+                    one_signal(words, output, is_whole, before, call, number)
+                    tried += 1
+    return f"{tried} calls of the system"
 
 
 def faults():

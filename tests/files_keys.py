@@ -82,7 +82,7 @@ def wrapping():
         check(read(f"{keys}.wrapped") == wrapped, "a refusal leaves what is there")
     write("damaged", wrapped[:40] + bytes([wrapped[40] ^ 1]) + wrapped[41:])
     tink("unwrap", "-k", "master.json", "--aad", "host", "-o", "none.json", "damaged", status=34, says="damaged: master failed")
-    tink("unwrap", "-k", "master.json", "-o", "none.json", "keys.json", status=34, says="keys.json: master failed")
+    tink("unwrap", "-k", "master.json", "-o", "none.json", "keys.json", status=34, says="keys.json: it is not wrapped")
     tink("wrap", "-k", "master.json", "-o", "none.json", "text", status=13, says="text: bad keyset")
     tink("wrap", "-k", "text", "-o", "none.json", "keys.json", status=13, says="text: bad keyset")
     tink("wrap", "-k", "none", "-o", "none.json", "keys.json", status=11, says="none: there is no such file")

@@ -327,3 +327,24 @@ def memory():
                     size = os.path.getsize(name)
                     check(status == 0 and most - least <= 16 * size, f"{words} with {count} keys: status {status}, {most} bytes of {size}")
             os.unlink("many.bin")
+        memory_of_sets()
+
+
+def memory_of_sets():
+    """The same of files of keys whose entries are kept: the master of `wrap`, and the keys of `sign`."""
+    least = peak(("keys", "keys.json"))[1]
+    for template in ("AES128_GCM", "AES256_GCM", "AES256_CTR_HMAC_SHA256", "AES256_GCM_SIV", "HMAC_SHA256_256BITTAG", "HMAC_SHA512_512BITTAG", "AES_CMAC"):
+        tink("new", template, "-o", template)
+        keyset = json.loads(read(template))
+        many = [{**keyset["key"][0], "keyId": number + 1} for number in range(20_000)]
+        write("many.json", json.dumps({"primaryKeyId": 1, "key": many}).encode())
+        tink("convert", "many.json", "-o", "many.bin", "--format", "binary")
+        for name in ("many.json", "many.bin"):
+            mac = template.startswith("HMAC") or template.startswith("AES_CMAC")
+            words = ("sign", "-k", name, "-o", "token", "small") if mac else ("wrap", "-k", name, "-o", "wrapped", "keys.json")
+            status, most = peak(words)
+            size = os.path.getsize(name)
+            check(status == 0 and most - least <= 16 * size, f"{words} with 20,000 keys of {template}: status {status}, {most} bytes of {size}")
+            if os.path.exists(words[4]):
+                os.unlink(words[4])
+        os.unlink("many.bin")

@@ -145,11 +145,11 @@ def keys_as_output():
         check(read("own") == TEXT, "a file onto itself")
 
 
-def redirected(words, source, output, flags):
+def redirected(words, source, output, flags, error=subprocess.PIPE):
     """A run whose standard input is a file, and whose standard output goes to a file that is opened so."""
     ends = [os.open(source, os.O_RDONLY), os.open(output, flags)]
     try:
-        return subprocess.run([PROGRAM, *words], stdin=ends[0], stdout=ends[1], stderr=subprocess.PIPE, timeout=300)
+        return subprocess.run([PROGRAM, *words], stdin=ends[0], stdout=ends[1], stderr=error, timeout=300)
     finally:
         for end in ends:
             os.close(end)
@@ -185,6 +185,29 @@ def apart():
                 done = run(*words, "-o", output, stdin_file=file)
             check(done.returncode == 12 and done.stderr.startswith(f"tink: {output}: ".encode()), f"{words} -o {output} < {source}: {done}")
             check(all_of() == before, f"{words} -o {output} < {source}: a file has changed")
+        # Standard error goes to a file that is read, and is the output.
+        for words, source, output in (
+            (("encrypt", "-k", "keys.json", "-o", "/dev/stderr", "text"), "text", "text"),
+            (("encrypt", "-k", "keys.json", "-o", "/proc/self/fd/2", "-"), "text", "text"),
+            (("encrypt", "-k", "-", "-o", "/dev/stderr", "text"), "keys.json", "keys.json"),
+            (("decrypt", "-k", "keys.json", "-o", "/dev/fd/2", "sealed"), "text", "sealed"),
+            (("range", "-k", "keys.json", "-o", "/dev/stderr", "--start", "0", "--length", "9", "sealed"), "text", "sealed"),
+        ):
+            with open(output, "ab") as error:
+                done = redirected(words, source, "/dev/null", os.O_WRONLY, error)
+            line = f"tink: {words[words.index('-o') + 1]}: this command reads the file to which it leads: give another name\n"
+            check(done.returncode == 12 and read(output) == before[output] + line.encode(), f"{words} < {source} 2>> {output}: {done} {len(read(output))}")
+            write(output, before[output])
+        # The name of a draft is none for an output: the next run would remove it.
+        os.symlink("linked.tink-2.part", "link to a draft")
+        for name in ("keys.json.tink.part", "text.tink-1.part", "./.tink-9.part", "link to a draft"):
+            for words in (("encrypt", "-k", "keys.json", "-o", name, "text"), ("new", "AES128_GCM", "-o", name), ("convert", "keys.json", "--format", "binary", "-o", name), ("rotate", name, "AES128_GCM")):
+                tink(*words, status=12, says=f"tink: {name}: the names of drafts end so")
+        check(all_of() == before and drafts() == [], "no draft's name is an output")
+        for name in ("out.tink-0.part", "out.tink-10.part", "out.part", "out.tink.part.tink", "tink.part"):
+            tink("encrypt", "-k", "keys.json", "-o", name, "text")
+            check(tink("decrypt", "-k", "keys.json", name) == TEXT, f"{name} as output")
+            os.remove(name)
         # A file that has the name of a draft: as keys it is refused, and a text stays.
         for number in (".tink.part", ".tink-1.part", ".tink-9.part"):
             name = f"out{number}"
@@ -193,10 +216,19 @@ def apart():
                 done = run(*words, "-o", "out")
                 check(done.returncode == 12 and not os.path.exists("out"), f"{words} -o out: {done}")
                 check(read(name) == before["keys.json"], f"{words} -o out: the keys are gone")
+            for words in (("encrypt", "-k", "-", "text"), ("rewrap", "-k", "-", "-t", "new.json", "sealed"), ("rewrap", "-k", "new.json", "-t", "-", "sealed")):
+                with open(name, "rb") as file:
+                    done = run(*words, "-o", "out", stdin_file=file)
+                check(done.returncode == 12 and not os.path.exists("out"), f"{words} -o out < {name}: {done}")
+                check(read(name) == before["keys.json"], f"{words} -o out < {name}: the keys are gone")
             os.rename(name, "keys.json")
             os.rename("text", name)
             tink("encrypt", "-k", "keys.json", "-o", "out", name)
             check(os.path.exists(name) and tink("decrypt", "-k", "keys.json", "out") == TEXT, f"a text that is named {name}")
+            for source in ("-", "/dev/stdin"):
+                with open(name, "rb") as file:
+                    done = run("encrypt", "-k", "keys.json", "-o", "out", source, stdin_file=file)
+                check(done.returncode == 0 and os.path.exists(name) and tink("decrypt", "-k", "keys.json", "out") == TEXT, f"{source} < {name}: {done}")
             os.rename(name, "text")
             os.unlink("out")
             os.rename("sealed", name)
@@ -322,9 +354,26 @@ def links():
         check(drafts() == [] and drafts("inner") == [], "no draft is left")
         streams_as_output(encrypt)
         stickied()
+        append_only(encrypt)
+
+
+def append_only(encrypt):
+    """In a folder from which nothing may be removed a draft stays, and a line says so."""
+    os.mkdir("append only")
+    if subprocess.run(["chattr", "+a", "append only"], capture_output=True).returncode != 0:
+        return
+    try:
+        left = b"tink: append only/%b.tink-1.part: this draft is left, since it cannot be removed (the system does not allow it): remove it\n"
+        done = run(*encrypt, "append only/out", "text")
+        check(done.returncode == 12 and done.stderr.startswith(left % b"out") and drafts("append only") == ["out.tink-1.part"], f"an append-only folder: {done}")
+        done = run("new", "AES128_GCM", "-o", "append only/keys")
+        check(done.returncode == 0 and done.stderr == left % b"keys" and len(ids("append only/keys")[0]) == 1, f"new keys in an append-only folder: {done}")
+    finally:
+        subprocess.run(["chattr", "-a", "append only"], check=True)
 
 
 def streams_as_output(encrypt):
+    tink(*encrypt, "/dev/fd/77", "text", status=12, says="/dev/fd/77: no such descriptor is open")
     for name in ("/dev/stdout", "/dev/fd/1", "/proc/self/fd/1"):
         check(tink("decrypt", "-k", "keys.json", stdin=tink(*encrypt, name, "text")) == TEXT, f"{name} as output")
     os.symlink("/dev/stdout", "to stdout")

@@ -25,7 +25,7 @@ def streams():
     write("bound", sealed)
     check(tink("decrypt", "-k", "keys.json", "--aad", "notes of May", "bound") == TEXT, "associated data")
     write("opened", b"what was there")
-    match = "no key of keys.json opens this stream: another keyset, other associated data, or a damaged beginning"
+    match = "no key of keys.json opens this stream: give the keys and the --aad that encrypted it; if they are right, it is damaged or was never encrypted"
     tink("decrypt", "-k", "keys.json", "-o", "opened", "bound", status=21, says="bound: " + match)
     tink("decrypt", "-k", "keys.bin", "-o", "opened", "bound", status=21)
     check(read("opened") == b"what was there" and drafts() == [], "a refusal leaves the output")

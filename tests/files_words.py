@@ -2,6 +2,7 @@
 import os
 import re
 
+from files_ends import on_terminal
 from files_lib import ROOT, TEXT, a_folder, all_of, check, drafts, read, run, tink, write
 
 USAGE = b"usage: seal KEYSET AAD SEED | open KEYSET AAD | keygen TEMPLATE SEED | rotate KEYSET TEMPLATE SEED | large N | range KEYSET AAD START LEN | rewrap KEYSET AAD KEYSET AAD SEED | sign KEYSET | verify KEYSET\n"
@@ -15,7 +16,7 @@ WRONG = [
     ("new X -o a Y", "one word too many: Y"),
     ("new X -o a --format yaml", "the option --format has no value yaml"),
     ("new X -o a --prefix big", "the option --prefix has no value big"),
-    ("new X -o a --format=", "the option --format has no value "),
+    ("new X -o a --format=", "the option --format has no value ''"),
     ("new -k a X -o b", "this command has no option --keys"),
     ("new X -o a -o b", "the option --output is given twice"),
     ("new X --output=a -o b", "the option --output is given twice"),
@@ -35,7 +36,12 @@ WRONG = [
     ("promote a x", "no id of a key: x ("),
     ("promote a +5", "no id of a key: +5 ("),
     ("promote a 4294967296", "no id of a key: 4294967296 ("),
-    ("enable a _", "no id of a key:  ("),
+    ("promote a -1", "no id of a key: -1 ("),
+    ("promote -5 a", "no id of a key: a ("),
+    ("delete -- a -1", "no id of a key: -1 ("),
+    ("promote a -1x", "no option is called -1x"),
+    ("promote a -", "no id of a key: - ("),
+    ("enable a _", "no id of a key: '' ("),
     ("disable a 1 2", "one word too many: 2"),
     ("destroy", "KEYS is missing"),
     ("delete a 1e3", "no id of a key: 1e3 ("),
@@ -51,6 +57,8 @@ WRONG = [
     ("encrypt -k a --no-clobber", "the option --no-clobber needs --output"),
     ("encrypt -k a --master-aad x", "the option --master-aad needs --master"),
     ("encrypt -k a --force=1", "this option takes no value: --force=1"),
+    ("encrypt -k a -1", "no option is called -1"),
+    ("encrypt -k a -x b", "no option is called -x"),
     ("encrypt -ka", "no option is called -ka; did you mean -k?"),
     ("encrypt -k=a", "no option is called -k=a; did you mean -k?"),
     ("encrypt -k a --outptu=b", "no option is called --outptu=b; did you mean --output?"),
@@ -84,7 +92,7 @@ WRONG = [
     ("help rotat", "no command is called rotat; did you mean rotate?"),
     ("help new new", "one word too many: new"),
     ("version a", "one word too many: a"),
-    ("--version -x", "no option is called -x; did you mean -k?"),
+    ("--version -x", "no option is called -x"),
 ]
 
 
@@ -112,6 +120,102 @@ def messages():
         write("-k", TEXT)
         tink("encrypt", "-k", "keys.json", "-o", "made", "--", "-k")
         check(tink("decrypt", "-k", "keys.json", "--", "made") == TEXT, "words behind --")
+
+
+EMPTY = "it is empty: give a file that `tink new` made"
+NO_KEYSET = "bad keyset: it is no keyset: give a file that `tink new` made, or one of Tink's in JSON or binary"
+BROKEN = "invalid keyset: it is empty, or its keyset breaks a rule: of a file the same command says which"
+NO_JSON = "bad json: it is no keyset in JSON: a bracket, a name or a number is not right: take an intact copy"
+OPENS_NOT = "opens this stream: give the keys and the --aad that encrypted it; if they are right, it is damaged or was never encrypted"
+OTHER_USE = "its keys have another use than a key of this template: take a template of their use, or force it by --any"
+UNWRAPPED = "it is not wrapped: a master opens only files that `tink wrap` made"
+WRAPPED = "it is a wrapped file of keys: `tink unwrap` opens it, and `--master MASTER` reads it in its place"
+FOLDER = "it is a folder"
+NONE = "there is no such file"
+
+# Mistakes with files: the words, the status, and the line on standard error behind `tink: `.
+MISTAKEN = [
+    ("keys empty", 14, f"empty: {EMPTY}"),
+    ("add empty AES128_GCM", 14, f"empty: {EMPTY}"),
+    ("enable empty 7", 14, f"empty: {EMPTY}"),
+    ("convert empty -o made --format json", 14, f"empty: {EMPTY}"),
+    ("encrypt -k empty text", 14, f"empty: {EMPTY}"),
+    ("encrypt -k keys.json --master empty text", 14, f"empty: {EMPTY}"),
+    ("encrypt -k empty --master master.json text", 34, f"empty: {EMPTY}"),
+    ("wrap -k master.json -o made empty", 14, f"empty: {EMPTY}"),
+    ("unwrap -k master.json -o made empty", 34, f"empty: {EMPTY}"),
+    ("keys no_key", 14, "no_key: invalid keyset: it has no key: give a file that `tink new` made"),
+    ("keys text", 13, f"text: {NO_KEYSET}"),
+    ("encrypt -k text keys.json", 13, f"text: {NO_KEYSET}"),
+    ("encrypt -k sealed text", 13, f"sealed: {NO_KEYSET}"),
+    ("promote text 7", 13, f"text: {NO_KEYSET}"),
+    ("wrap -k master.json -o made text", 13, f"text: {NO_KEYSET}"),
+    ("keys wrapped.json", 14, f"wrapped.json: {WRAPPED}"),
+    ("encrypt -k wrapped.json text", 14, f"wrapped.json: {WRAPPED}"),
+    ("rewrap -k keys.json -t wrapped.json sealed", 14, f"wrapped.json: {WRAPPED}"),
+    ("encrypt -k keys.json --master master.json text", 34, f"keys.json: {UNWRAPPED}"),
+    ("unwrap -k master.json -o made keys.json", 34, f"keys.json: {UNWRAPPED}"),
+    ("rewrap -k wrapped.json --master master.json -t new.json sealed", 34, f"new.json: {UNWRAPPED}"),
+    ("rotate keys.json AES128_GCM", 18, f"keys.json: {OTHER_USE}"),
+    ("rotate keys.json keys.json", 24, "keys.json: unknown template: no template has this name: `tink templates` lists them"),
+    ("add AES128_GCM keys.json", 12, f"AES128_GCM: {NONE}"),
+    ("rotate - AES128_GCM", 12, f"-: {NONE}"),
+    ("new - -o made", 24, "-: unknown template: no template has this name: `tink templates` lists them"),
+    ("decrypt -k keys.json text", 21, f"text: no key of keys.json {OPENS_NOT}"),
+    ("decrypt -k keys.json empty", 21, f"empty: no key of keys.json {OPENS_NOT}"),
+    ("check -k new.json sealed", 21, f"sealed: no key of new.json {OPENS_NOT}"),
+    ("info -k keys.json text", 21, f"text: no key of keys.json {OPENS_NOT}"),
+    ("range -k keys.json --start 0 --length 1 text", 21, f"text: no key of keys.json {OPENS_NOT}"),
+    ("rewrap -k keys.json -t new.json text", 21, f"text: no key of keys.json {OPENS_NOT}"),
+    ("keys folder", 11, f"folder: {FOLDER}"),
+    ("encrypt -k folder text", 11, f"folder: {FOLDER}"),
+    ("encrypt -k keys.json folder", 11, f"folder: {FOLDER}"),
+    ("encrypt -k keys.json -o folder text", 12, f"folder: {FOLDER}: give the name of a file"),
+    ("new AES128_GCM -o folder", 12, f"folder: {FOLDER}: give the name of a file"),
+    ("promote folder 7", 12, f"folder: {FOLDER}: give the name of a file"),
+    ("encrypt -k keys.json no_file", 11, f"no_file: {NONE}"),
+    ("verify -k no_file text", 11, f"no_file: {NONE}"),
+    ("encrypt -k wrapped.json --master no_file text", 11, f"no_file: {NONE}"),
+    ("encrypt -k keys.json -o no_folder/out text", 12, "no_folder/out: its folder is not there"),
+]
+
+# The same of keys on standard input: the words, what is on it, the status and the line.
+FROM_INPUT = [
+    ("keys -", b"", 14, f"standard input: {BROKEN}"),
+    ("encrypt -k - text", b"", 14, f"standard input: {BROKEN}"),
+    ("rewrap -k keys.json -t - sealed", b"", 14, f"standard input: {BROKEN}"),
+    ("convert - -o made --format json", b"", 14, f"standard input: {BROKEN}"),
+    ("keys -", TEXT, 13, f"standard input: {NO_KEYSET}"),
+    ("keys -", b"{", 30, f"standard input: {NO_JSON}"),
+    ("wrap -k master.json -o made -", TEXT, 13, f"standard input: {NO_KEYSET}"),
+    ("encrypt -k wrapped.json --master - text", TEXT, 13, f"standard input: {NO_KEYSET}"),
+]
+
+
+def mistakes():
+    with a_folder("mistakes"):
+        write("empty", b"")
+        write("no_key", b"\x08\x01")
+        os.mkdir("folder")
+        before = all_of()
+        for line, status, says in MISTAKEN:
+            tells(line, b"", status, says)
+        for line, data, status, says in FROM_INPUT:
+            tells(line, data, status, says)
+        keys = read("new.json")
+        tells("decrypt -k - sealed", keys, 21, f"sealed: no key of standard input {OPENS_NOT}")
+        check(all_of() == before and drafts() == [], "a mistake changes nothing")
+        # On a terminal a user who leaves out the keys hears of the file too.
+        for line, says in (("sign no_file", f"no_file: {NONE}"), ("range folder", f"folder: {FOLDER}")):
+            shown = on_terminal(line.split(), "/dev/null").decode().split("\r\n")
+            action = line.split()[0]
+            check(shown[:2] == [f"tink: {says}", f"tink {action}: the option --keys is missing"], f"{line} on a terminal: {shown}")
+            check(len(shown) == 4 and shown[2].startswith(f"usage: tink {action} -k KEYS "), f"{line} on a terminal: {shown}")
+
+
+def tells(line, data, status, says):
+    done = run(*line.split(), stdin=data)
+    check((done.returncode, done.stderr.decode()) == (status, f"tink: {says}\n"), f"{line}: {done}, not {says!r}")
 
 
 def help_pages():
@@ -176,9 +280,9 @@ def names():
         os.symlink(odd, "to odd")
         check(tink("decrypt", "-k", "keys.json", stdin=tink("encrypt", "-k", "keys.json", "to odd")) == TEXT, "an input by a link to a name that is not UTF-8")
         tink("encrypt", "-k", "keys.json", "-o", "to odd", "text", status=12, says="not UTF-8")
-        tink("encrypt", "-k", "keys.json", "-o", "", "text", status=12, says="tink: : ")
-        tink("encrypt", "-k", "", "text", status=11, says="tink: : ")
-        tink("encrypt", "-k", "keys.json", "", status=11, says="tink: : ")
+        tink("encrypt", "-k", "keys.json", "-o", "", "text", status=12, says="tink: '': ")
+        tink("encrypt", "-k", "", "text", status=11, says="tink: '': ")
+        tink("encrypt", "-k", "keys.json", "", status=11, says="tink: '': ")
         tink("new", "AES128_GCM", "-o", "", status=12)
         tink("rotate", "", "AES128_GCM", status=12)
         check(drafts() == [], "no draft is left")

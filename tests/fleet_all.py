@@ -8,7 +8,7 @@ sys.path[:0] = [HERE, os.path.join(os.path.dirname(HERE), "fleet")]
 sys.dont_write_bytecode = True
 os.environ["TINK"] = sys.argv[1]
 
-MODULES = ("fleet_units", "fleet_parts", "fleet_runs", "fleet_rotations", "fleet_clusters", "fleet_docs")
+MODULES = ("fleet_units", "fleet_parts", "fleet_attacks", "fleet_runs", "fleet_rotations", "fleet_clusters", "fleet_docs")
 
 
 def chosen(suite: unittest.TestSuite, names: list[str]):

@@ -82,7 +82,8 @@ class Cluster:
         from distributed import Client
 
         if not hasattr(self, "kept"):
-            self.kept = Client(self.address)
+            # On a busy machine a scheduler answers late.
+            self.kept = Client(self.address, timeout=120)
         return self.kept
 
     def wait(self, count: int) -> None:
@@ -236,6 +237,7 @@ class Clusters(Targets, ClusterYard):
         )
         self.run_all(opened, says="1 done, 0 failed")
         self.assertEqual(read(self.at("again/large")), read(self.at("plain/large")))
+        self.assertEqual(self.record(opened)["large.tink"]["sha256"], sha256(read(self.at("sealed/large.tink"))))
 
     def test_workers_are_killed_in_parts(self):
         needs("info")

@@ -3,7 +3,7 @@ import os
 from dataclasses import replace
 from unittest.mock import patch
 
-from fleet_lib import TINK, Yard, needs, read, tink, write
+from fleet_lib import TINK, Yard, needs, read, sha256, tink, write
 from tink_fleet import parts
 from tink_fleet.errors import TaskError
 from tink_fleet.tasks import Job, Outcome, Task, Worker
@@ -30,7 +30,7 @@ class Parts(Yard):
         for start, length in cuts:
             parts.part(self.worker, task, plan, start, length)
         outcome = Outcome("sealed", "done", 0.0, 0.0, "", "new")
-        parts.finish(self.worker, task, plan, outcome)
+        parts.finish(task, plan, parts.digest(task, plan), outcome)
         return outcome
 
     def test_the_text_equals_the_sequential_one(self):
@@ -41,7 +41,7 @@ class Parts(Yard):
             for part in (first, later, SEGMENT + 1, 2 * later - 1, size or 1):
                 outcome = self.decrypt(task, part)
                 self.assertEqual(read(self.at("out")), whole[:size], f"{size} bytes by parts of {part}")
-                self.assertEqual(outcome.size, size)
+                self.assertEqual((outcome.size, outcome.sha256), (size, sha256(read(self.at("sealed")))))
         self.assertEqual(tink("decrypt", "-k", self.at("keys"), "--aad", "t", self.at("sealed")), whole)
         self.expect_no_drafts(self.folder)
 
@@ -51,9 +51,9 @@ class Parts(Yard):
             self.assertEqual(
                 [at for start, length in cuts for at in range(start, start + length)], list(range(plaintext))
             )
-        self.assertEqual(parts.part_size(2 << 30, 4, None), 512 << 20)
-        self.assertEqual(parts.part_size((2 << 30) + 1, 4, None), 257 << 20)
-        self.assertEqual(parts.part_size((1 << 30) + 1, 4, None), 257 << 20)
+        self.assertEqual(parts.part_size(2 << 30, 4, None), 128 << 20)
+        self.assertEqual(parts.part_size((2 << 30) + 1, 4, None), 129 << 20)
+        self.assertEqual(parts.part_size((1 << 30) + 1, 4, None), 65 << 20)
         self.assertEqual(parts.part_size(1, 4, None), parts.LEAST_PART)
         self.assertEqual(parts.part_size(1 << 50, 4, None), parts.MOST_PART)
 
@@ -87,6 +87,69 @@ class Parts(Yard):
         with self.assertRaisesRegex(TaskError, "changed while it was read"):
             parts.part(self.worker, task, plan, 10000, 10000)
 
+    def test_a_stream_that_changes_is_not_published_with_its_hash(self):
+        """Its time, its size, its bytes at the same time, another file under its name."""
+        for change in ("time", "size", "front", "inode"):
+            task = self.sealed(self.random.randbytes(20000))
+            plan = parts.probe(self.worker, task)
+            parts.part(self.worker, task, plan, 0, 20000)
+            sha, stream = parts.digest(task, plan), read(self.at("sealed"))
+            found = os.stat(self.at("sealed"))
+            if change == "size":
+                write(self.at("sealed"), stream + b"x")
+            elif change == "front":
+                write(self.at("sealed"), bytes([stream[0] ^ 1]) + stream[1:])
+            elif change == "inode":
+                write(self.at("copy"), stream)
+                os.replace(self.at("copy"), self.at("sealed"))
+            stamp = found.st_mtime_ns + (change == "time")
+            os.utime(self.at("sealed"), ns=(stamp, stamp))
+            for step in (
+                lambda: parts.digest(task, plan),
+                lambda: parts.part(self.worker, task, plan, 0, 20000),
+                lambda: parts.finish(task, plan, sha, Outcome("sealed", "done", 0.0, 0.0, "", "new")),
+            ):
+                with self.assertRaisesRegex(TaskError, "sealed: it was changed while it was read", msg=change):
+                    step()
+            self.assertFalse(os.path.exists(self.at("out")), change)
+            parts.discard(plan)
+
+    def test_a_stream_that_changes_while_it_is_hashed_is_refused(self):
+        task, real = self.sealed(self.random.randbytes(20000)), parts.places.digest
+        plan = parts.probe(self.worker, task)
+
+        def changed(fd: int, place: str) -> str:
+            made = real(fd, place)
+            os.utime(self.at("sealed"), ns=(1, 1))
+            return made
+
+        with patch.object(parts.places, "digest", changed):
+            with self.assertRaisesRegex(TaskError, "changed while it was read"):
+                parts.digest(task, plan)
+
+    def test_another_stream_that_goes_while_it_is_hashed_is_refused(self):
+        """The right one is back under the name before the end."""
+        task, real = self.sealed(self.random.randbytes(20000)), parts.places.digest
+        plan = parts.probe(self.worker, task)
+        os.utime(self.at("sealed"), ns=(1, 1))
+
+        def restored(fd: int, place: str) -> str:
+            made = real(fd, place)
+            os.utime(self.at("sealed"), ns=(task.mtime, task.mtime))
+            return made
+
+        with patch.object(parts.places, "digest", restored):
+            with self.assertRaisesRegex(TaskError, "changed while it was read"):
+                parts.digest(task, plan)
+
+    def test_without_a_hash_nothing_is_published(self):
+        task = self.sealed(b"x" * 9000)
+        plan = parts.probe(self.worker, task)
+        parts.part(self.worker, task, plan, 0, 9000)
+        with self.assertRaisesRegex(TaskError, "sealed: it was not hashed: run again"):
+            parts.finish(task, plan, None, Outcome("sealed", "done", 0.0, 0.0, "", "new"))
+        self.assertFalse(os.path.exists(self.at("out")))
+
     def program(self, script: str) -> Worker:
         """A worker whose program is this script, which has the real one in TINK."""
         write(self.at("program"), f"#!/bin/sh\nTINK={TINK}\n{script}\n".encode())
@@ -109,7 +172,7 @@ class Parts(Yard):
         parts.part(self.worker, task, plan, 0, 9000)
         write(self.at("out"), b"theirs")
         with self.assertRaisesRegex(TaskError, "another process made it meanwhile"):
-            parts.finish(self.worker, task, plan, Outcome("sealed", "done", 0.0, 0.0, "", "new"))
+            parts.finish(task, plan, "00", Outcome("sealed", "done", 0.0, 0.0, "", "new"))
         self.assertEqual(read(self.at("out")), b"theirs")
 
     def test_a_part_that_is_too_short_is_refused(self):
@@ -133,7 +196,7 @@ class Parts(Yard):
                 parts.part(self.worker, task, plan, start, 10000)
                 self.assertIn(plan.draft, synced)
             synced.clear()
-            parts.finish(self.worker, task, plan, Outcome("sealed", "done", 0.0, 0.0, "", "new"))
+            parts.finish(task, plan, "00", Outcome("sealed", "done", 0.0, 0.0, "", "new"))
         self.assertEqual(synced[-1], self.folder, "the folder reaches the disk too")
 
     def test_a_worker_that_died_after_the_end_is_understood(self):
@@ -142,5 +205,5 @@ class Parts(Yard):
         parts.part(self.worker, task, plan, 0, 9000)
         for _ in range(2):
             outcome = Outcome("sealed", "done", 0.0, 0.0, "", "new")
-            parts.finish(self.worker, task, plan, outcome)
+            parts.finish(task, plan, parts.digest(task, plan), outcome)
             self.assertEqual((outcome.size, read(self.at("out"))), (9000, b"x" * 9000))

@@ -24,7 +24,8 @@
  *   - A `bool` is 0 or 1.
  *   - malloc aligns to 16 bytes; no call is made from a signal handler.
  *
- * The library keeps nothing between calls, so that threads may call it at once.
+ * The library keeps nothing between calls but what an object holds, so that threads may call it at once. Calls with the same
+ * object come one after another.
  */
 #ifndef TINK_H
 #define TINK_H
@@ -64,6 +65,7 @@ enum {
   TINK_MASTER_FAILED = 34,
   TINK_RANDOM_FAULT = 35, /* fewer random bytes were handed in than the call takes */
   TINK_TOO_LITTLE_ROOM = 42,
+  TINK_CLOSED = 43, /* the object holds nothing, or another primitive */
   TINK_DECRYPT_FAILED = 44,
   TINK_TEXT_TOO_LONG = 46,
   TINK_DATA_TOO_LONG = 47,
@@ -212,6 +214,134 @@ tink_status tink_sign_token(const uint8_t *keyset, size_t keyset_len,
 tink_status tink_verify_token(const uint8_t *keyset, size_t keyset_len,
                               const uint8_t *token, size_t token_len,
                               uint8_t *out, size_t out_room, size_t *written);
+
+/* ---- objects: a keyset is loaded once, and asked often
+ *
+ * An object begins as TINK_NONE (`tink_aead aead = TINK_NONE;`). `_new` fills it, and it owns memory then; `_free` empties it.
+ * No other call changes what it holds. A call with an object that holds nothing, or another primitive, does nothing: it
+ * answers TINK_CLOSED. Of an object and its copies only one may be used. Only the library writes its fields.
+ */
+typedef struct {
+  void *at;
+  bool full;
+} tink_aead;
+
+typedef struct {
+  void *at;
+  bool full;
+} tink_daead;
+
+typedef struct {
+  void *at;
+  bool full;
+} tink_mac;
+
+typedef struct {
+  void *at;
+  bool full;
+} tink_prf;
+
+typedef struct {
+  void *at;
+  bool full;
+} tink_signer;
+
+/* An object that holds nothing. */
+#define TINK_NONE {0, false}
+
+/* Fills an object with the AEADs of a keyset. What it held before is freed. After another status it is as before.
+ * Statuses: those of keys. */
+tink_status tink_aead_new(const uint8_t *keyset, size_t keyset_len, tink_aead *object);
+
+/* The ciphertext by the primary key.
+ * Statuses: TINK_CLOSED, TINK_TEXT_TOO_LONG, TINK_DATA_TOO_LONG, TINK_RANDOM_FAULT. */
+tink_status tink_aead_encrypt(tink_aead *object,
+                              const uint8_t *plaintext, size_t plaintext_len,
+                              const uint8_t *associated_data, size_t associated_data_len,
+                              const uint8_t *random, size_t random_len,
+                              uint8_t *out, size_t out_room, size_t *written);
+
+/* The plaintext by any key, as of tink_decrypt.
+ * Statuses: TINK_CLOSED, TINK_DECRYPT_FAILED. */
+tink_status tink_aead_decrypt(tink_aead *object,
+                              const uint8_t *ciphertext, size_t ciphertext_len,
+                              const uint8_t *associated_data, size_t associated_data_len,
+                              uint8_t *out, size_t out_room, size_t *written);
+
+/* Frees what the object holds. It holds nothing then, and may be filled or freed again. */
+void tink_aead_free(tink_aead *object);
+
+/* Fills an object with the deterministic AEADs of a keyset. What it held before is freed. After another status it is as before.
+ * Statuses: those of keys. */
+tink_status tink_daead_new(const uint8_t *keyset, size_t keyset_len, tink_daead *object);
+
+/* The ciphertext by the primary key.
+ * Statuses: TINK_CLOSED, TINK_TEXT_TOO_LONG. */
+tink_status tink_daead_encrypt(tink_daead *object,
+                               const uint8_t *plaintext, size_t plaintext_len,
+                               const uint8_t *associated_data, size_t associated_data_len,
+                               uint8_t *out, size_t out_room, size_t *written);
+
+/* The plaintext by any key, as of tink_decrypt.
+ * Statuses: TINK_CLOSED, TINK_DECRYPT_FAILED. */
+tink_status tink_daead_decrypt(tink_daead *object,
+                               const uint8_t *ciphertext, size_t ciphertext_len,
+                               const uint8_t *associated_data, size_t associated_data_len,
+                               uint8_t *out, size_t out_room, size_t *written);
+
+/* Frees what the object holds. It holds nothing then, and may be filled or freed again. */
+void tink_daead_free(tink_daead *object);
+
+/* Fills an object with the MACs of a keyset. What it held before is freed. After another status it is as before.
+ * Statuses: those of keys. */
+tink_status tink_mac_new(const uint8_t *keyset, size_t keyset_len, tink_mac *object);
+
+/* The MAC of a message by the primary key.
+ * Statuses: TINK_CLOSED. */
+tink_status tink_mac_compute(tink_mac *object,
+                             const uint8_t *message, size_t message_len,
+                             uint8_t *out, size_t out_room, size_t *written);
+
+/* TINK_OK if a key accepts the MAC for the message.
+ * Statuses: TINK_CLOSED, TINK_MAC_MISMATCH. */
+tink_status tink_mac_verify(tink_mac *object,
+                            const uint8_t *mac, size_t mac_len,
+                            const uint8_t *message, size_t message_len);
+
+/* Frees what the object holds. It holds nothing then, and may be filled or freed again. */
+void tink_mac_free(tink_mac *object);
+
+/* Fills an object with the pseudorandom functions of a keyset. What it held before is freed. After another status it is as before.
+ * Statuses: those of keys, TINK_NOT_RAW. */
+tink_status tink_prf_new(const uint8_t *keyset, size_t keyset_len, tink_prf *object);
+
+/* The first `output_length` bytes of the primary function for an input.
+ * Statuses: TINK_CLOSED, TINK_BAD_OUTPUT_LENGTH. */
+tink_status tink_prf_compute(tink_prf *object,
+                             const uint8_t *input, size_t input_len, size_t output_length,
+                             uint8_t *out, size_t out_room, size_t *written);
+
+/* Frees what the object holds. It holds nothing then, and may be filled or freed again. */
+void tink_prf_free(tink_prf *object);
+
+/* Fills an object with the MACs of a keyset. What it held before is freed. After another status it is as before.
+ * Statuses: those of keys. */
+tink_status tink_signer_new(const uint8_t *keyset, size_t keyset_len, tink_signer *object);
+
+/* The token of a payload by the primary key, in ASCII.
+ * Statuses: TINK_CLOSED. */
+tink_status tink_signer_sign(tink_signer *object,
+                             const uint8_t *payload, size_t payload_len,
+                             uint8_t *out, size_t out_room, size_t *written);
+
+/* The payload of a token whose MAC a key accepts. It is no longer than the token.
+ * Statuses: TINK_CLOSED, TINK_BAD_TOKEN, TINK_MAC_MISMATCH. */
+tink_status tink_signer_verify(tink_signer *object,
+                               const uint8_t *token, size_t token_len,
+                               uint8_t *out, size_t out_room, size_t *written);
+
+/* Frees what the object holds. It holds nothing then, and may be filled or freed again. */
+void tink_signer_free(tink_signer *object);
 
 /* ---- streams that are held whole: the files that the program `tink` encrypts */
 

@@ -42,6 +42,7 @@ const (
 	MasterFailed       Status = 34
 	RandomFault        Status = 35
 	TooLittleRoom      Status = 42
+	Closed             Status = 43
 	DecryptFailed      Status = 44
 	TextTooLong        Status = 46
 	DataTooLong        Status = 47
@@ -73,6 +74,7 @@ var texts = map[Status]string{
 	MasterFailed:       "the master keyset refuses it: other keys or other associated data",
 	RandomFault:        "the system gave too few random bytes",
 	TooLittleRoom:      "the buffer is too small",
+	Closed:             "the object holds no keys: it was closed",
 	DecryptFailed:      "no key decrypts it with this associated data",
 	TextTooLong:        "the plaintext is longer than the cipher takes",
 	DataTooLong:        "the associated data is longer than the cipher takes",

@@ -63,27 +63,30 @@ func TestVectors(t *testing.T) {
 		bytesOf := must[[]byte](t)
 		switch words[0] {
 		case "aead":
-			aead := NewAEAD(d[0])
+			aead := must[AEAD](t)(NewAEAD(d[0]))
 			equal(t, bytesOf(aead.Decrypt(d[4], d[2])), d[1])
 			_, err := aead.Decrypt(d[4][1:], d[2])
 			refused(t, err, DecryptFailed)
 			equal(t, bytesOf(aead.encrypt(d[1], d[2], d[3])), d[4])
 		case "daead":
-			daead := NewDeterministicAEAD(d[0])
+			daead := must[DeterministicAEAD](t)(NewDeterministicAEAD(d[0]))
 			equal(t, bytesOf(daead.EncryptDeterministically(d[1], d[2])), d[3])
 			equal(t, bytesOf(daead.DecryptDeterministically(d[3], d[2])), d[1])
 		case "mac":
-			mac := NewMAC(d[0])
+			mac := must[MAC](t)(NewMAC(d[0]))
 			equal(t, bytesOf(mac.ComputeMAC(d[1])), d[2])
 			if err := mac.VerifyMAC(d[2], d[1]); err != nil {
 				t.Fatal(err)
 			}
 			refused(t, mac.VerifyMAC(d[2], []byte("another")), MACMismatch)
 		case "prf":
-			equal(t, bytesOf(NewPRF(d[0]).Compute(d[1], len(d[2]))), d[2])
+			equal(t, bytesOf(must[PRF](t)(NewPRF(d[0])).Compute(d[1], len(d[2]))), d[2])
 		case "token":
 			equal(t, bytesOf(SignToken(d[0], d[2])), d[1])
 			equal(t, bytesOf(VerifyToken(d[0], d[1])), d[2])
+			signer := must[Signer](t)(NewSigner(d[0]))
+			equal(t, bytesOf(signer.Sign(d[2])), d[1])
+			equal(t, bytesOf(signer.Verify(d[1])), d[2])
 		case "stream":
 			equal(t, bytesOf(OpenStream(d[0], d[2], d[1])), d[3])
 			part := io.NewSectionReader(NewRangeReader(d[0], d[2], d[1]), 1, 1<<40)
@@ -112,11 +115,11 @@ func TestVectors(t *testing.T) {
 func TestRotation(t *testing.T) {
 	keyset := must[Keyset](t)
 	k := keyset(CreateKeyset("AES128_GCM"))
-	aead := NewAEAD(k)
+	aead := must[AEAD](t)(NewAEAD(k))
 	sealed := must[[]byte](t)(aead.Encrypt([]byte("a value"), []byte("its column")))
 	old := must[[]Key](t)(k.Keys())[0].ID
 	k = keyset(k.Rotate("AES128_GCM"))
-	aead = NewAEAD(k)
+	aead = must[AEAD](t)(NewAEAD(k))
 	equal(t, must[[]byte](t)(aead.Decrypt(sealed, []byte("its column"))), []byte("a value"))
 	_, err := keyset(k.Promote(old)).Disable(old)
 	refused(t, err, IsPrimary)
@@ -156,7 +159,11 @@ func TestStream(t *testing.T) {
 func TestNothingShowsAKey(t *testing.T) {
 	k := Keyset("the key")
 	reader := NewRangeReader(k, []byte("the key"), nil)
-	values := []any{NewAEAD(k), NewDeterministicAEAD(k), NewMAC(k), NewPRF(k), reader}
+	aead := must[AEAD](t)(NewAEAD(must[Keyset](t)(CreateKeyset("AES128_GCM"))))
+	if strings.Contains(fmt.Sprintf("%v %+v %#v", aead, aead, aead), "AesGcm") {
+		t.Error("an AEAD shows its keyset")
+	}
+	values := []any{aead, reader}
 	for _, value := range append(values, struct{ inner any }{values}, k, &k) {
 		for _, verb := range []string{"%v", "%+v", "%#v", "%s", "%q", "%x", "%d"} {
 			shown := strings.ToLower(fmt.Sprintf(verb, value))
@@ -170,7 +177,7 @@ func TestNothingShowsAKey(t *testing.T) {
 }
 
 func TestNumbers(t *testing.T) {
-	prf := NewPRF(must[Keyset](t)(CreateKeyset("HKDF_SHA256")))
+	prf := must[PRF](t)(NewPRF(must[Keyset](t)(CreateKeyset("HKDF_SHA256"))))
 	for _, length := range []int{-1, 1 << 20, 1 << 50} {
 		_, err := prf.Compute([]byte("input"), length)
 		refused(t, err, BadOutputLength)
@@ -196,9 +203,40 @@ func TestWrapping(t *testing.T) {
 	refused(t, err, MasterFailed)
 }
 
+// After Close each call answers Closed, and Close may come again.
+func TestClose(t *testing.T) {
+	keyset := must[Keyset](t)
+	aead := must[AEAD](t)(NewAEAD(keyset(CreateKeyset("AES128_GCM"))))
+	daead := must[DeterministicAEAD](t)(NewDeterministicAEAD(keyset(CreateKeyset("AES256_SIV"))))
+	macs := keyset(CreateKeyset("HMAC_SHA256_128BITTAG"))
+	mac, signer := must[MAC](t)(NewMAC(macs)), must[Signer](t)(NewSigner(macs))
+	prf := must[PRF](t)(NewPRF(keyset(CreateKeyset("HKDF_SHA256"))))
+	for _, it := range []io.Closer{aead, daead, mac, signer, prf, aead} {
+		if err := it.Close(); err != nil {
+			t.Fatal(err)
+		}
+	}
+	for _, call := range []func() ([]byte, error){
+		func() ([]byte, error) { return aead.Encrypt(nil, nil) },
+		func() ([]byte, error) { return aead.Decrypt(nil, nil) },
+		func() ([]byte, error) { return daead.EncryptDeterministically(nil, nil) },
+		func() ([]byte, error) { return daead.DecryptDeterministically(nil, nil) },
+		func() ([]byte, error) { return mac.ComputeMAC(nil) },
+		func() ([]byte, error) { return nil, mac.VerifyMAC(nil, nil) },
+		func() ([]byte, error) { return signer.Sign(nil) },
+		func() ([]byte, error) { return signer.Verify(nil) },
+		func() ([]byte, error) { return prf.Compute(nil, 16) },
+	} {
+		_, err := call()
+		refused(t, err, Closed)
+	}
+	_, err := NewAEAD(macs)
+	refused(t, err, WrongPrimitive)
+}
+
 func TestGoroutines(t *testing.T) {
 	keys := must[Keyset](t)(CreateKeyset("AES256_GCM"))
-	aead := NewAEAD(keys)
+	aead := must[AEAD](t)(NewAEAD(keys))
 	var group sync.WaitGroup
 	for i := 0; i < 4; i++ {
 		group.Add(1)

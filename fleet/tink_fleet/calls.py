@@ -14,8 +14,9 @@ def batch_call(job: Job, tasks: list[Task]) -> dict:
     return {"do": "batch", "job": vars(job), "tasks": [vars(it) for it in tasks]}
 
 
-def step_call(job: Job, task: Task, do: str, plan: dict | None = None, start: int = 0, length: int = 0) -> dict:
-    return {"do": do, "job": vars(job), "task": vars(task), "plan": plan, "start": start, "length": length}
+def step_call(job: Job, task: Task, do: str, plan: dict | None = None, **more) -> dict:
+    """A step of a large file: `probe`, `hash`, `part` with `start` and `length`, `finish` with `sha256`, `discard`."""
+    return {"do": do, "job": vars(job), "task": vars(task), "plan": plan, **more}
 
 
 def describe_call(job: Job) -> dict:
@@ -37,7 +38,7 @@ def perform(call: dict, name: str | None = None, may_go_on: Callable[[], bool] =
         worker = worker_of(job, name, threading.get_ident())
         if call["do"] == "batch":
             return [vars(it) for it in worker.batch([Task(**it) for it in call["tasks"]], may_go_on)]
-        return [parts.step(worker, Task(**call["task"]), call["do"], call["plan"], call["start"], call["length"])]
+        return [parts.step(worker, call)]
     except FleetError as e:
         failed = [vars(unable(it, name, str(e))) for it in call.get("tasks", [call.get("task")])]
         return failed if call["do"] == "batch" else [{"outcome": failed[0], "plan": None}]

@@ -9,7 +9,7 @@ import time
 from collections.abc import Callable
 
 from tink_fleet.driver import Driver, Engine, Summary
-from tink_fleet.errors import FleetError, Refused
+from tink_fleet.errors import FleetError, Refused, shown
 from tink_fleet.manifest import Manifest, read_manifest
 from tink_fleet.program import KEYS_FD
 
@@ -145,7 +145,7 @@ def run_manifest(given: argparse.Namespace) -> int:
 
 def tell(manifest: Manifest, made: Summary, quiet: bool) -> None:
     for line in made.failures:
-        print(f"fleet: {line}", file=sys.stderr)
+        print(shown(f"fleet: {line}"), file=sys.stderr)
     if made.failed > len(made.failures):
         print(f"fleet: and {made.failed - len(made.failures)} more: `fleet status {manifest.file}`", file=sys.stderr)
     if not quiet:

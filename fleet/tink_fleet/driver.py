@@ -59,7 +59,24 @@ class Summary:
     keys: Counter[int | None] = field(default_factory=Counter)
 
 
+@dataclass
+class Steps:
+    """How steps of a large file ended: by one outcome, and with the plan of a probe and the SHA-256 of a hash."""
+
+    outcome: Outcome
+    plan: dict | None
+    sha256: str | None
+
+
 MOST_FAILURES_SHOWN = 20
+
+
+def size_at(place: str) -> int | None:
+    """The bytes of a file, or None where it cannot be looked at: its task is done, and fails alone by that."""
+    try:
+        return places.size_of(place)
+    except OSError:
+        return None
 
 
 class Driver:
@@ -103,7 +120,7 @@ class Driver:
                 finally:
                     self.engine.close()
                 self.summary.seconds = time.monotonic() - began
-                ends = ("done", "failed", "skipped", "bytes")
+                ends = ("done", "failed", "skipped", "bytes", "seconds")
                 self.record.end({word: getattr(self.summary, word) for word in ends})
             finally:
                 self.record.close()
@@ -218,14 +235,14 @@ class Driver:
         entry = self.record.history.entries.get(item.path)
         # What this fleet made may be made again; what is there from elsewhere only where the manifest says so.
         is_ours = entry is not None and entry.state == "done" and target not in (None, source)
-        replaces = it.replace or (is_ours and places.size_of(target) == entry.size)
+        replaces = it.replace or (is_ours and size_at(target) == entry.size)
         return Task(
             item.path, source, target, it.aad_of(item.path), it.to_aad_of(item.path), item.size, item.mtime, replaces
         )
 
     def is_done(self, task: Task, entry: Entry) -> bool:
         """Whether what the record calls done is still there, and of the same source and the same key."""
-        if places.size_of(task.target or task.source) != entry.size:
+        if size_at(task.target or task.source) != entry.size:
             return False
         if self.manifest.operation == "rewrap" and entry.key not in (None, self.job.primary):
             return False
@@ -240,7 +257,7 @@ class Driver:
             and self.engine.slots > 1
             and not is_url(task.source)
             and not is_url(task.target)
-            and (task.replaces or places.size_of(task.target) is None)
+            and (task.replaces or size_at(task.target) is None)
         )
 
     def batches(self) -> Iterator[dict]:
@@ -294,7 +311,7 @@ class Driver:
     def left(self, task: dict) -> str:
         """What a worker that died left under the target's name: it may have published before it died."""
         place = task["target"] or task["source"]
-        if places.size_of(place) is None:
+        if size_at(place) is None:
             return "absent"
         rests = places.identity(place)[-2:] == (task["size"], task["mtime"])
         return "old" if rests and task["target"] in (None, task["source"]) else "unknown"
@@ -337,33 +354,40 @@ class Driver:
                 self.say(f"{root}: {count} drafts of killed workers were removed")
 
     def split(self, task: Task) -> None:
-        """Decrypts one large file by ranges, each in a process of its own."""
-        began, clock = time.time(), time.monotonic()
-        outcome, plan = self.steps([calls.step_call(self.job, task, "probe")])
-        if plan is not None and outcome.state == "done":
-            size = parts.part_size(plan["plaintext"], self.engine.slots, self.manifest.part_bytes)
-            cuts = parts.ranges(plan["plaintext"], size)
-            outcome, _ = self.steps([calls.step_call(self.job, task, "part", plan, *it) for it in cuts])
-            if outcome.state == "done":
-                outcome, _ = self.steps([calls.step_call(self.job, task, "finish", plan)])
-            if outcome.state != "done":
+        """Decrypts one large file by ranges and hashes its stream, each in a process of its own."""
+        clock = time.monotonic()
+        made = self.steps([calls.step_call(self.job, task, "probe")])
+        if made.plan is not None and made.outcome.state == "done":
+            plan, made = made.plan, self.steps(self.shares(task, made.plan))
+            if made.outcome.state == "done":
+                made = self.steps([calls.step_call(self.job, task, "finish", plan, sha256=made.sha256)])
+            if made.outcome.state != "done":
                 self.steps([calls.step_call(self.job, task, "discard", plan)])
-        outcome.time, outcome.seconds = round(began, 3), round(time.monotonic() - clock, 4)
+        outcome = made.outcome
+        outcome.time, outcome.seconds = round(time.time(), 3), round(time.monotonic() - clock, 4)
         self.add([outcome])
+
+    def shares(self, task: Task, plan: dict) -> list[dict]:
+        """The hash of the stream, which takes longest and so begins first, and the ranges."""
+        size = parts.part_size(plan["plaintext"], self.engine.slots, self.manifest.part_bytes)
+        cuts = parts.ranges(plan["plaintext"], size)
+        made = [calls.step_call(self.job, task, "hash", plan)]
+        return made + [calls.step_call(self.job, task, "part", plan, start=it, length=length) for it, length in cuts]
 
     def results(self, given: list[dict]) -> Iterable[tuple[dict, list[dict] | None]]:
         stamped = list(self.stamped(iter(given)))
         return self.engine.run(stamped) if len(stamped) > 1 else [(it, self.engine.call(it)) for it in stamped]
 
-    def steps(self, given: list[dict]) -> tuple[Outcome, dict | None]:
+    def steps(self, given: list[dict]) -> Steps:
         """Does steps, each up to three times. Returns the last outcome, or that of a step which failed."""
         failed: Outcome | None = None
-        last, plan = None, None
+        last, plan, sha256 = None, None, None
         for attempt in range(1, ATTEMPTS + 1):
             again = []
             for call, results in self.results(given):
                 found = Outcome(**results[0]["outcome"]) if results else self.died(call["task"])
                 plan = results[0]["plan"] if results else plan
+                sha256 = found.sha256 or sha256
                 last = found
                 if found.state == "done":
                     continue
@@ -378,4 +402,4 @@ class Driver:
             self.next_round(attempt + 1)
         if last is None:
             raise Refused("the engine gave no answer: run again")
-        return failed or last, plan
+        return Steps(failed or last, plan, sha256)

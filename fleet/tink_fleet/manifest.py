@@ -127,15 +127,28 @@ def checked(manifest: Manifest) -> Manifest:
         },
     )
     made = replace(made, state=located(base, made.state))
-    if made.target == made.source:
-        raise FleetError(
-            f"{file}: `target` is `source`: leave `target` out of a rewrap in place, else name another folder"
-        )
-    if made.target is not None and made.target.startswith(made.source.rstrip("/") + "/"):
-        raise FleetError(
-            f"{file}: `target` is inside of `source`, so that what is made would be a source too: name another folder"
-        )
+    check_apart(made)
     return made
+
+
+def check_apart(manifest: Manifest) -> None:
+    """Sees that no target can be a source, whatever links lead to the two folders."""
+    if manifest.target is None or is_url(manifest.source) != is_url(manifest.target):
+        return
+    source, target = (it if is_url(it) else os.path.realpath(it) for it in (manifest.source, manifest.target))
+    source, target = source.rstrip("/") + "/", target.rstrip("/") + "/"
+    if target == source:
+        raise FleetError(
+            f"{manifest.file}: `target` is `source`: leave `target` out of a rewrap in place, else name another folder"
+        )
+    if target.startswith(source):
+        raise FleetError(
+            f"{manifest.file}: `target` is inside of `source`, so that what is made would be a source too: name another folder"
+        )
+    if source.startswith(target):
+        raise FleetError(
+            f"{manifest.file}: `source` is inside of `target`, so that what is made could take the place of a source: name another folder"
+        )
 
 
 def located(base: str, place: str | None) -> str | None:

@@ -16,6 +16,8 @@ from tink_fleet.program import KEYS_FD
 
 # GNU parallel begins when it has a line for each slot, so that more lines than slots have to be out.
 AHEAD = 4
+# GNU parallel puts numbers in place of `{}` and of more than that in its command, which a path may have.
+START = 'exec "$TINK_FLEET_PYTHON" "$TINK_FLEET" worker "$TINK_FLEET_STATE" "$1"'
 PATIENCE_SECONDS = 600.0
 
 
@@ -66,10 +68,10 @@ class ParallelEngine:
     def started(self) -> subprocess.Popen:
         """GNU parallel, which waits for the numbers of calls."""
         launcher = os.path.join(os.path.dirname(os.path.dirname(os.path.abspath(__file__))), "fleet")
-        words = ["parallel", "--plain", "-q", "--line-buffer", f"--jobs={self.slots}"]
-        words += [sys.executable, launcher, "worker", self.state, "{}"]
+        words = ["parallel", "--plain", "-q", "--line-buffer", f"--jobs={self.slots}", "sh", "-c", START, "sh", "{}"]
         fds = () if self.keys_fd is None else (self.keys_fd,)
         more = {} if self.keys_fd is None else {KEYS_FD: str(self.keys_fd)}
+        more |= {"TINK_FLEET_PYTHON": sys.executable, "TINK_FLEET": launcher, "TINK_FLEET_STATE": self.state}
         with open(self.log, "ab") as log:
             return subprocess.Popen(
                 words,
@@ -144,8 +146,7 @@ class Feeder:
                 if self.is_stopped:
                     return
                 self.out[number] = call
-                with open(self.path(number), "w", encoding="ascii") as file:
-                    json.dump(call, file)
+                write_named(self.path(number), json.dumps(call).encode("ascii"))
                 self.running.stdin.write(f"{number}\n".encode())
                 self.running.stdin.flush()
         except BrokenPipeError:
@@ -188,6 +189,14 @@ class Feeder:
 
 
 def write_whole(path: str, data: bytes) -> None:
-    with open(path + ".new", "wb") as file:
-        file.write(data)
+    write_named(path + ".new", data)
     os.replace(path + ".new", path)
+
+
+def write_named(path: str, data: bytes) -> None:
+    """Writes a file. An error, as of a full disk, names it."""
+    try:
+        with open(path, "wb") as file:
+            file.write(data)
+    except OSError as e:
+        raise OSError(e.errno, e.strerror, path) from e

@@ -59,6 +59,9 @@ def local_items(root: str, skip: str) -> Iterator[Item]:
         try:
             with os.scandir(os.path.join(root, folder)) as entries:
                 found = sorted(entries, key=lambda it: it.name)
+        except FileNotFoundError:
+            # It was removed since it was listed, and has no files.
+            continue
         except OSError as e:
             raise FleetError(f"{os.path.join(root, folder)}: {e.strerror}: the folder cannot be listed") from e
         inner = []
@@ -67,7 +70,10 @@ def local_items(root: str, skip: str) -> Iterator[Item]:
                 if entry.path != skip:
                     inner.append(os.path.join(folder, entry.name))
             elif entry.is_file(follow_symlinks=False) and not entry.name.startswith(DRAFT):
-                state = entry.stat(follow_symlinks=False)
+                try:
+                    state = entry.stat(follow_symlinks=False)
+                except FileNotFoundError:
+                    continue
                 yield Item(os.path.join(folder, entry.name), state.st_size, state.st_mtime_ns)
         waiting.extend(reversed(inner))
 
@@ -153,13 +159,12 @@ class Draft:
     def publish(self, target: str, replaces: bool) -> None:
         """Lets the draft reach the disk, and gives it the name of the target.
 
-        A target that is replaced hands on its owner and mode, as by the program. A link is followed.
+        A target that is replaced hands on its owner and mode, as by the program.
 
         # Errors
         `FileExistsError` where there is a target and it is not to be replaced. `PermissionError` where it may not be.
         """
         if replaces:
-            target = os.path.realpath(target)
             take_over(self.fd, target)
         os.fsync(self.fd)
         if replaces:
@@ -217,22 +222,26 @@ def sweep(root: str, fleet: str) -> int:
     return count
 
 
-def digest(fd: int) -> str:
-    """The SHA-256 of a file from its first byte on, in lower-case hexadecimal."""
-    os.lseek(fd, 0, os.SEEK_SET)
+def digest(fd: int, place: str) -> str:
+    """The SHA-256 of a file from its first byte on, in lower-case hexadecimal. An error names the place."""
     made, block = hashlib.sha256(), bytearray(BLOCK)
     view = memoryview(block)
-    while count := os.readv(fd, [block]):
-        made.update(view[:count])
+    try:
+        os.lseek(fd, 0, os.SEEK_SET)
+        while count := os.readv(fd, [block]):
+            made.update(view[:count])
+    except OSError as e:
+        raise OSError(e.errno, e.strerror, place) from e
     return made.hexdigest()
 
 
-def digest_of(path: str) -> str:
-    fd = os.open(path, os.O_RDONLY | os.O_CLOEXEC)
-    try:
-        return digest(fd)
-    finally:
-        os.close(fd)
+def link_on_the_way(place: str, depth: int) -> str | None:
+    """The last `depth` parts of a path that are a link, as the path of it."""
+    for _ in range(depth):
+        if os.path.islink(place):
+            return place
+        place = os.path.dirname(place)
+    return None
 
 
 def fetch(url: str, scratch: str | None) -> int:

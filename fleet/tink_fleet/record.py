@@ -1,6 +1,8 @@
 """The record of a fleet: one line of JSON for each task that ended, appended by the driver alone."""
+import errno
 import json
 import os
+import re
 import sys
 import time
 from dataclasses import dataclass, field
@@ -64,41 +66,59 @@ def read_record(state: str) -> History:
             history.whole += len(line)
             try:
                 read_line(history, json.loads(line))
-            except (ValueError, KeyError, TypeError, AttributeError):
+            except (ValueError, LookupError, TypeError, AttributeError, RecursionError):
                 history.damaged.append(number)
     return history
 
 
 def read_line(history: History, line: dict) -> None:
     if "fleet" in line:
-        history.fleet, history.work = line["fleet"], line["work"]
+        fleet, work = of_type(line, "fleet", str), of_type(line, "work", dict)
+        if not re.fullmatch("[0-9a-f]{8}", fleet) or history.fleet not in ("", fleet):
+            raise ValueError("the line of another fleet")
+        history.fleet, history.work = fleet, work
     elif "run" in line:
-        history.runs.append(line)
+        history.runs.append({"run": of_type(line, "run", str), "time": of_type(line, "time", float, int)})
         history.has_ended = False
     elif "end" in line:
-        history.runs[-1]["end"] = line["end"]
+        history.runs[-1]["end"] = of_type(line, "end", dict)
         history.has_ended = True
     elif "total" in line:
-        history.runs[-1].update(line)
+        history.runs[-1]["total"] = of_type(line, "total", int)
     else:
-        history.entries[line["path"]] = Entry(
-            sys.intern(line["state"]),
-            line.get("size"),
-            line.get("key"),
-            line.get("source_size"),
-            line.get("source_mtime"),
-            line.get("line"),
-            sys.intern(line.get("target", "")),
+        numbers = [of_type(line, word, int, type(None)) for word in ("size", "key", "source_size", "source_mtime")]
+        made = Entry(
+            sys.intern(of_type(line, "state", str)),
+            *numbers,
+            of_type(line, "line", str, type(None)),
+            sys.intern(of_type(line, "target", str)),
         )
-        count(history.runs[-1] if history.runs else {}, line)
+        when = of_type(line, "time", float, int)
+        if made.state not in ("done", "failed"):
+            raise ValueError("an unknown state")
+        history.entries[of_type(line, "path", str)] = made
+        count(history.runs[-1] if history.runs else {}, made, when)
 
 
-def count(run: dict, line: dict) -> None:
+def of_type(line: dict, word: str, *types: type):
+    """The value of a word, where it has one of these types. A foreign line has others."""
+    value = line.get(word)
+    if not isinstance(value, types) or isinstance(value, bool):
+        raise ValueError(f"`{word}` has a value of the wrong type")
+    return value
+
+
+def count(run: dict, entry: Entry, when: float) -> None:
     """Keeps the sums that the speed of a run is computed of."""
-    run["last"] = max(run.get("last", 0.0), line.get("time", 0.0))
-    if line["state"] == "done":
+    run["last"] = max(run.get("last", 0.0), when)
+    if entry.state == "done":
         run["files"] = run.get("files", 0) + 1
-        run["done_bytes"] = run.get("done_bytes", 0) + (line.get("size") or 0)
+        run["done_bytes"] = run.get("done_bytes", 0) + (entry.size or 0)
+
+
+def unwritten(e: OSError, path: str) -> FleetError:
+    remedy = "make room there" if e.errno in (errno.ENOSPC, errno.EDQUOT) else "correct this"
+    return FleetError(f"{path}: {e.strerror}: {remedy}, and run again; what was done stays done")
 
 
 class Record:
@@ -130,13 +150,19 @@ class Record:
 
     def append(self, lines: list[dict]) -> None:
         data = memoryview("".join(json.dumps(it, separators=(",", ":")) + "\n" for it in lines).encode())
-        while data:
-            data = data[os.write(self.file, data) :]
+        try:
+            while data:
+                data = data[os.write(self.file, data) :]
+        except OSError as e:
+            raise unwritten(e, self.path) from e
         if time.monotonic() - self.synced > SYNC_SECONDS:
             self.sync()
 
     def sync(self) -> None:
-        os.fsync(self.file)
+        try:
+            os.fsync(self.file)
+        except OSError as e:
+            raise unwritten(e, self.path) from e
         self.synced = time.monotonic()
 
     def add(self, outcomes: list[Outcome]) -> None:

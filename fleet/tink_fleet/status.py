@@ -3,6 +3,7 @@ import time
 from dataclasses import asdict, dataclass, field
 
 from tink_fleet import places
+from tink_fleet.errors import shown
 from tink_fleet.manifest import Manifest
 from tink_fleet.locks import is_driven
 from tink_fleet.record import History, read_record
@@ -17,8 +18,9 @@ class Status:
     left: int = 0
     left_bytes: int = 0
     is_running: bool = False
-    bytes_per_second: float = 0.0
-    files_per_second: float = 0.0
+    # None where it is unknown, as where the clock went back.
+    bytes_per_second: float | None = None
+    files_per_second: float | None = None
     seconds_left: float | None = None
     failures: dict[str, str] = field(default_factory=dict)
 
@@ -45,8 +47,13 @@ def speeds(made: Status, history: History) -> None:
     if not history.runs:
         return
     run = history.runs[-1]
-    end = time.time() if made.is_running else run.get("last", run["time"])
-    seconds = max(end - run["time"], 0.001)
+    seconds = (time.time() if made.is_running else run.get("last", run["time"])) - run["time"]
+    told = run.get("end", {}).get("seconds")
+    if isinstance(told, float):
+        # A clock that no one sets measured it.
+        seconds = told
+    if seconds <= 0:
+        return
     made.bytes_per_second = run.get("done_bytes", 0) / seconds
     made.files_per_second = run.get("files", 0) / seconds
     if made.left and made.files_per_second:
@@ -59,12 +66,18 @@ def lines_of(made: Status) -> list[str]:
         f"done     {made.done}",
         f"failed   {made.failed}",
         f"left     {made.left} ({made.left_bytes / 1e6:.1f} MB)",
-        f"speed    {made.bytes_per_second / 1e6:.1f} MB/s, {made.files_per_second:.1f} files/s",
+        f"speed    {speed_of(made)}",
         f"driver   {'at work' if made.is_running else 'none'}",
     ]
     if made.seconds_left is not None:
         lines.append(f"time left {made.seconds_left:.0f} s")
-    return lines + [f"FAILED   {path}: {line}" for path, line in made.failures.items()]
+    return lines + [shown(f"FAILED   {path}: {line}") for path, line in made.failures.items()]
+
+
+def speed_of(made: Status) -> str:
+    if made.bytes_per_second is None or made.files_per_second is None:
+        return "unknown"
+    return f"{made.bytes_per_second / 1e6:.1f} MB/s, {made.files_per_second:.1f} files/s"
 
 
 def as_json(made: Status) -> dict:

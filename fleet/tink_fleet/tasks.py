@@ -61,8 +61,8 @@ class Task:
 class Outcome:
     """How a task ended: a line of the record.
 
-    `size` counts the bytes of the target, or of the source of a check; `sha256` is that of the ciphertext, and `front`
-    the first bytes of a ciphertext that was read in parts. `target` is what is under the target's name after it.
+    `size` counts the bytes of the target, or of the source of a check; `sha256` is that of the whole ciphertext.
+    `target` is what is under the target's name after it.
     """
 
     path: str
@@ -74,7 +74,6 @@ class Outcome:
     size: int | None = None
     key: int | None = None
     sha256: str | None = None
-    front: str | None = None
     source_size: int | None = None
     source_mtime: int | None = None
     adopted: bool = False
@@ -187,7 +186,8 @@ class Worker:
                 more_fds=fds_of(file, fd),
             )
             outcome.key = self.key_of(keys, task.aad, file, fd)
-            outcome.sha256, outcome.size, outcome.target = places.digest(fd), os.fstat(fd).st_size, "same"
+            outcome.sha256 = places.digest(fd, task.source)
+            outcome.size, outcome.target = os.fstat(fd).st_size, "same"
 
     def key_of(self, keys: Keys, aad: str, file: str, fd: int) -> int | None:
         """The key of a stream, where the program can say it or there is one enabled key alone."""
@@ -200,6 +200,7 @@ class Worker:
 
     def make(self, task: Task, outcome: Outcome, words: Callable[[str], list[str]], keys: list[Keys]) -> None:
         """Makes the target of a task as a draft, and gives it its name when it is whole."""
+        check_place(task, keys)
         if not task.replaces and not task.in_place and places.size_of(task.target) is not None:
             return self.adopt(task, outcome)
         with self.draft(task) as draft, opened(task.source, self.job.scratch) as (file, fd):
@@ -208,9 +209,10 @@ class Worker:
                 outcome.key = self.primary(keys[-1])
             self.fill(draft, task, words(file), keys, fds_of(file, fd))
             if self.job.operation == "decrypt":
-                outcome.sha256, outcome.key = places.digest(fd), self.key_of(keys[0], task.aad, file, fd)
+                outcome.sha256 = places.digest(fd, task.source)
+                outcome.key = self.key_of(keys[0], task.aad, file, fd)
             else:
-                outcome.sha256 = places.digest(draft.fd)
+                outcome.sha256 = places.digest(draft.fd, task.target)
             outcome.size = os.fstat(draft.fd).st_size
             if self.ends(task, keys) != before:
                 raise TaskError(
@@ -235,7 +237,7 @@ class Worker:
     def draft(self, task: Task) -> Draft:
         if is_url(task.target):
             return Draft(self.job.scratch or os.environ.get("TMPDIR", "/tmp"), self.job.fleet)
-        folder = os.path.dirname(os.path.realpath(task.target) if task.replaces else task.target)
+        folder = os.path.dirname(task.target)
         os.makedirs(folder, exist_ok=True)
         return Draft(folder, self.job.fleet)
 
@@ -267,7 +269,8 @@ class Worker:
                 f"{task.target}: it is there already and has not the text of {task.source} under these keys: move it away, or set `replace = true`"
             )
         with opened(stream, job.scratch) as (file, fd):
-            outcome.sha256, outcome.key = places.digest(fd), self.key_of(keys, aad, file, fd) or outcome.key
+            outcome.sha256 = places.digest(fd, stream)
+            outcome.key = self.key_of(keys, aad, file, fd) or outcome.key
         outcome.size, outcome.adopted = places.size_of(task.target), True
 
     def text_of(self, task: Task, end: str) -> str:
@@ -276,7 +279,7 @@ class Worker:
         place = task.source if end == "source" else task.target
         with opened(place, job.scratch) as (file, fd):
             if end == {"encrypt": "source", "decrypt": "target"}.get(job.operation):
-                return places.digest(fd)
+                return places.digest(fd, place)
             keys, aad = (job.source_keys, task.aad) if end == "source" else (job.target_keys, task.to_aad)
             words = ["decrypt", "-q", *keys.words("-k"), "--aad", aad, file]
             return plain_digest(self.program, words, keys, fds_of(file, fd))
@@ -297,7 +300,8 @@ class Worker:
             found = self.key_of(keys, task.to_aad, file, fd)
             if found not in (None, self.primary(keys)):
                 return False
-            outcome.sha256, outcome.size, outcome.adopted = places.digest(fd), os.fstat(fd).st_size, True
+            outcome.sha256 = places.digest(fd, task.source)
+            outcome.size, outcome.adopted = os.fstat(fd).st_size, True
             resting(outcome, fd)
         return True
 
@@ -316,8 +320,31 @@ def told(task: Task, outcome: Outcome):
     except TaskError as e:
         failed(task, outcome, e.line, e.status, e.retry)
     except OSError as e:
-        place = e.filename if isinstance(e.filename, str) else task.target or task.source
+        # Of two names, the second is that of the target.
+        named = [it for it in (e.filename2, e.filename) if isinstance(it, str)]
+        place = named[0] if named else task.target or task.source
         failed(task, outcome, f"{place}: {e.strerror}: {remedy(e)}", None, True)
+
+
+def check_place(task: Task, keys: list[Keys]) -> None:
+    """Sees that a target is what its path says: behind a link, it could be a source, or the target of another task.
+
+    # Errors
+    `TaskError` where a link is on the way from the target folder to the target, or the target is a file of keys.
+    """
+    if is_url(task.target):
+        return
+    link = places.link_on_the_way(task.target, task.path.count("/") + 1)
+    if link is not None:
+        raise TaskError(
+            f"{task.target}: {link} is a link, and fleet writes through no link below the target folder: "
+            "remove the link, or name another target"
+        )
+    if not task.replaces or places.size_of(task.target) is None:
+        return
+    for path in {path for it in keys for path in (it.path, it.master) if path not in (None, "-")}:
+        if os.path.exists(path) and os.path.samefile(path, task.target):
+            raise TaskError(f"{task.target}: it is a file of keys, which is not replaced: name another target")
 
 
 def is_utf8(path: str) -> bool:
@@ -333,6 +360,10 @@ def remedy(e: OSError) -> str:
         return "make room there and run again"
     if e.errno in (errno.EACCES, errno.EPERM, errno.EROFS):
         return "give the worker the right to it and run again"
+    if e.errno == errno.ENAMETOOLONG:
+        return "shorten the name and run again"
+    if e.errno in (errno.EEXIST, errno.EISDIR, errno.ENOTDIR, errno.ENOTEMPTY, errno.ELOOP):
+        return "move what is there away, or name another target, and run again"
     return "see that the file is there for this worker, and run again"
 
 

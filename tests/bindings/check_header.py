@@ -13,6 +13,7 @@ TYPES = {
     "&[u8]": [("const uint8_t *", ""), ("size_t", "_len")],
     "&mut [u8]": [("uint8_t *", ""), ("size_t", "_room")],
     "&mut usize": [("size_t *", "")],
+    "&mut Owner": [("tink_{} *", "")],
     "Global": [],
     "bool": [("bool", "")],
     "u32": [("uint32_t", "")],
@@ -21,10 +22,15 @@ TYPES = {
 }
 # A word of C++ in place of which C has another name.
 RENAMED = {"template": "template_name", "template_len": "template_len"}
-RUST = {"In": "const uint8_t *", "Out": "uint8_t *", "Len": "size_t *", "bool": "bool"}
+RUST = {"In": "const uint8_t *", "Out": "uint8_t *", "Len": "size_t *", "bool": "bool", "Object": "object *"}
 RUST.update({"usize": "size_t", "u32": "uint32_t", "u64": "uint64_t"})
 PYTHON = {"in": ["const uint8_t *", "size_t"], "out": ["uint8_t *", "size_t", "size_t *"], "bool": ["bool"]}
-PYTHON.update({"u32": ["uint32_t"], "u64": ["uint64_t"], "size": ["size_t"]})
+PYTHON.update({"u32": ["uint32_t"], "u64": ["uint64_t"], "size": ["size_t"], "object": ["object *"]})
+# The wrappers pass each object as a pointer of one type.
+OBJECT = re.compile(r"^tink_\w+ \*$")
+# The wrappers in Rust and Go ask objects in place of these calls.
+BY_OBJECTS = {"tink_encrypt", "tink_decrypt", "tink_encrypt_deterministically", "tink_decrypt_deterministically"}
+BY_OBJECTS |= {"tink_compute_mac", "tink_verify_mac", "tink_compute_prf"}
 
 wrong = 0
 
@@ -55,7 +61,8 @@ def exported():
             for argument in arguments(words):
                 called, kind = argument.split(": ")
                 for c_type, suffix in TYPES[kind]:
-                    parts.append((c_type, RENAMED.get(called + suffix, called + suffix)))
+                    # An object has the type that the function is named after.
+                    parts.append((c_type.format(name.split("_")[1]), RENAMED.get(called + suffix, called + suffix)))
             functions[name] = ("tink_status" if result == "u8" else "void", parts)
     return functions
 
@@ -108,9 +115,9 @@ def check_python(types, statuses):
 def check_rust(types, statuses):
     source = read("bindings/rust/src/sys.rs")
     functions = {}
-    for name, words in re.findall(r"^    fn (tink_\w+)\((.*?)\);", source, re.M | re.S):
+    for name, words in re.findall(r"^    (?:pub )?fn (tink_\w+)\((.*?)\);", source, re.M | re.S):
         functions[name] = [RUST[argument.split(": ")[1]] for argument in arguments(words)]
-    same("Rust", functions, types)
+    same("Rust", functions, {name: kinds for name, kinds in types.items() if name not in BY_OBJECTS})
     errors = re.findall(r"(\d+) => Error::(\w+)", read("bindings/rust/src/error.rs"))
     same("Rust", {name.lower(): int(number) for number, name in errors}, statuses)
     return {name: int(number) for name, number in re.findall(r"const RANDOM_(\w+): usize = (\d+)", source)}
@@ -118,7 +125,8 @@ def check_rust(types, statuses):
 
 def check_go(types, statuses):
     source = "".join(path.read_text() for path in sorted((ROOT / "bindings/go").glob("*.go")) if path.name != "tink_test.go")
-    same("Go", {name: True for name in re.findall(r"C\.(tink_\w+)\(", source)}, {name: True for name in types})
+    called = set(re.findall(r"C\.(tink_\w+)\(", source))
+    same("Go", dict.fromkeys(called | BY_OBJECTS, True), dict.fromkeys(types, True))
     errors = re.findall(r"^\t(\w+) +Status = (\d+)", source, re.M)
     same("Go", {name.lower(): int(number) for name, number in errors}, statuses)
     return {name.upper(): int(number) for name, number in re.findall(r"^\trandom(\w+) += (\d+)", source, re.M)}
@@ -139,7 +147,7 @@ def main():
     random = {name[7:]: number for name, number in random.items()}
     statuses = {name: number for name, number in numbers(text).items() if name[7:] not in random}
     check_statuses(statuses)
-    types = {name: [kind for kind, _ in parts] for name, (_, parts) in header.items()}
+    types = {name: [OBJECT.sub("object *", kind) for kind, _ in parts] for name, (_, parts) in header.items()}
     named = {name.lower().replace("_", ""): number for name, number in statuses.items() if number}
     for language, check in (("Python", check_python), ("Rust", check_rust), ("Go", check_go)):
         same(f"random bytes of {language}", check(types, named), random)

@@ -96,34 +96,111 @@ static int gave(data d) { return written == d.len && memcmp(out, d.bytes, d.len)
 
 #define D(d) (d).bytes, (d).len
 
+/* An object is filled, with memory refused at each request in turn. After each refusal, and by a keyset that is cut, it holds
+ * what it held. */
+#define FILLS(name, k, object)                                            \
+  do {                                                                    \
+    for (refuse_at = 0;; refuse_at++) {                                   \
+      void *was_ = (object)->at;                                          \
+      bool full_ = (object)->full;                                        \
+      asked = 0;                                                          \
+      tink_status status_ = name(D(k), object);                           \
+      if (status_ == TINK_OK && asked <= refuse_at) break;                \
+      if (status_ == TINK_OK) continue;                                   \
+      CHECK(status_ == TINK_OUT_OF_MEMORY && (object)->at == was_ && (object)->full == full_); \
+    }                                                                     \
+    refuse_at = -1;                                                       \
+    CHECK((object)->full);                                                \
+    void *was_ = (object)->at;                                            \
+    CHECK(name((k).bytes, (k).len - 1, object) == TINK_BAD_KEYSET);       \
+    CHECK((object)->full && (object)->at == was_);                        \
+  } while (0)
+
 static void aead(data k, data p, data a, data r, data c) {
   GIVES(c, tink_encrypt, D(k), D(p), D(a), D(r));
   GIVES(p, tink_decrypt, D(k), D(c), D(a));
   REFUSES(TINK_DECRYPT_FAILED, tink_decrypt, D(k), c.bytes, c.len - 1, D(a));
   REFUSES(TINK_RANDOM_FAULT, tink_encrypt, D(k), D(p), D(a), r.bytes, r.len - 1);
   REFUSES(TINK_BAD_KEYSET, tink_decrypt, k.bytes, k.len - 1, D(c), D(a));
+  /* the same by an object, and none by one that holds nothing or another primitive */
+  tink_aead it = TINK_NONE;
+  REFUSES(TINK_CLOSED, tink_aead_encrypt, &it, D(p), D(a), D(r));
+  REFUSES(TINK_CLOSED, tink_aead_decrypt, &it, D(c), D(a));
+  CHECK(tink_aead_new(k.bytes, k.len - 1, &it) == TINK_BAD_KEYSET && !it.full);
+  FILLS(tink_aead_new, k, &it);
+  GIVES(c, tink_aead_encrypt, &it, D(p), D(a), D(r));
+  GIVES(p, tink_aead_decrypt, &it, D(c), D(a));
+  REFUSES(TINK_DECRYPT_FAILED, tink_aead_decrypt, &it, c.bytes, c.len - 1, D(a));
+  REFUSES(TINK_RANDOM_FAULT, tink_aead_encrypt, &it, D(p), D(a), r.bytes, r.len - 1);
+  REFUSES(TINK_CLOSED, tink_mac_compute, (tink_mac *)&it, D(p));
+  FILLS(tink_aead_new, k, &it);
+  GIVES(p, tink_aead_decrypt, &it, D(c), D(a));
+  tink_aead_free(&it);
+  REFUSES(TINK_CLOSED, tink_aead_decrypt, &it, D(c), D(a));
+  tink_aead_free(&it);
 }
 
 static void daead(data k, data p, data a, data c) {
   GIVES(c, tink_encrypt_deterministically, D(k), D(p), D(a));
   GIVES(p, tink_decrypt_deterministically, D(k), D(c), D(a));
+  tink_daead it = TINK_NONE;
+  REFUSES(TINK_CLOSED, tink_daead_encrypt, &it, D(p), D(a));
+  REFUSES(TINK_CLOSED, tink_daead_decrypt, &it, D(c), D(a));
+  FILLS(tink_daead_new, k, &it);
+  GIVES(c, tink_daead_encrypt, &it, D(p), D(a));
+  GIVES(p, tink_daead_decrypt, &it, D(c), D(a));
+  REFUSES(TINK_DECRYPT_FAILED, tink_daead_decrypt, &it, c.bytes, c.len - 1, D(a));
+  REFUSES(TINK_CLOSED, tink_aead_decrypt, (tink_aead *)&it, D(c), D(a));
+  tink_daead_free(&it);
+  REFUSES(TINK_CLOSED, tink_daead_encrypt, &it, D(p), D(a));
+  tink_daead_free(&it);
 }
 
 static void mac(data k, data m, data t) {
   GIVES(t, tink_compute_mac, D(k), D(m));
   CHECK(tink_verify_mac(D(k), D(t), D(m)) == TINK_OK);
   CHECK(tink_verify_mac(D(k), t.bytes, t.len - 1, D(m)) == TINK_MAC_MISMATCH);
+  tink_mac it = TINK_NONE;
+  REFUSES(TINK_CLOSED, tink_mac_compute, &it, D(m));
+  CHECK(tink_mac_verify(&it, D(t), D(m)) == TINK_CLOSED);
+  FILLS(tink_mac_new, k, &it);
+  GIVES(t, tink_mac_compute, &it, D(m));
+  CHECK(tink_mac_verify(&it, D(t), D(m)) == TINK_OK);
+  CHECK(tink_mac_verify(&it, t.bytes, t.len - 1, D(m)) == TINK_MAC_MISMATCH);
+  REFUSES(TINK_CLOSED, tink_prf_compute, (tink_prf *)&it, D(m), (size_t)1);
+  tink_mac_free(&it);
+  CHECK(tink_mac_verify(&it, D(t), D(m)) == TINK_CLOSED);
+  tink_mac_free(&it);
 }
 
 static void prf(data k, data i, data o) {
   GIVES(o, tink_compute_prf, D(k), D(i), o.len);
   REFUSES(TINK_BAD_OUTPUT_LENGTH, tink_compute_prf, D(k), D(i), (size_t)1 << 20);
+  tink_prf it = TINK_NONE;
+  REFUSES(TINK_CLOSED, tink_prf_compute, &it, D(i), o.len);
+  FILLS(tink_prf_new, k, &it);
+  GIVES(o, tink_prf_compute, &it, D(i), o.len);
+  REFUSES(TINK_BAD_OUTPUT_LENGTH, tink_prf_compute, &it, D(i), SIZE_MAX);
+  REFUSES(TINK_CLOSED, tink_daead_encrypt, (tink_daead *)&it, D(i), D(i));
+  tink_prf_free(&it);
+  REFUSES(TINK_CLOSED, tink_prf_compute, &it, D(i), o.len);
+  tink_prf_free(&it);
 }
 
 static void token(data k, data t, data p) {
   GIVES(t, tink_sign_token, D(k), D(p));
   GIVES(p, tink_verify_token, D(k), D(t));
   REFUSES(TINK_BAD_TOKEN, tink_verify_token, D(k), D(p));
+  tink_signer it = TINK_NONE;
+  REFUSES(TINK_CLOSED, tink_signer_sign, &it, D(p));
+  REFUSES(TINK_CLOSED, tink_signer_verify, &it, D(t));
+  FILLS(tink_signer_new, k, &it);
+  GIVES(t, tink_signer_sign, &it, D(p));
+  GIVES(p, tink_signer_verify, &it, D(t));
+  REFUSES(TINK_BAD_TOKEN, tink_signer_verify, &it, D(p));
+  tink_signer_free(&it);
+  REFUSES(TINK_CLOSED, tink_signer_verify, &it, D(t));
+  tink_signer_free(&it);
 }
 
 static void stream(data k, data a, data s, data t) {
@@ -252,7 +329,7 @@ static void vectors(const char *path) {
 
 /* Whether a status is one that the header declares. */
 static int is_declared(tink_status status) {
-  static const tink_status all[] = {0, 10, 13, 14, 15, 16, 17, 18, 19, 20, 21, 22, 23, 24, 25, 27, 28, 30, 31, 32, 33, 34, 35, 42, 44, 46, 47, 48, 49};
+  static const tink_status all[] = {0, 10, 13, 14, 15, 16, 17, 18, 19, 20, 21, 22, 23, 24, 25, 27, 28, 30, 31, 32, 33, 34, 35, 42, 43, 44, 46, 47, 48, 49};
   return memchr(all, status, sizeof all) != NULL;
 }
 
@@ -364,6 +441,43 @@ static void loop(int rounds) {
   }
 }
 
+/* Random calls with three objects: each holds the keys that filled it last, until it is freed. */
+static void objects(int rounds) {
+  uint8_t random[TINK_RANDOM_KEY], keysets[2][1024], text[64], sealed[256], opened[256];
+  size_t kn[2], sn, on;
+  tink_aead its[3] = {TINK_NONE, TINK_NONE, TINK_NONE};
+  int held[3] = {-1, -1, -1};
+  for (int of = 0; of < 2; of++) {
+    noise(random, sizeof random);
+    CHECK(tink_keyset_create((const uint8_t *)"AES128_GCM", 10, false, random, sizeof random, keysets[of], sizeof keysets[of], &kn[of]) == TINK_OK);
+  }
+  for (int i = 0; i < rounds; i++) {
+    int at = (int)(next() % 3), of = (int)(next() % 2), what = (int)(next() % 8);
+    noise(text, sizeof text);
+    noise(random, sizeof random);
+    if (what == 0) {
+      CHECK(tink_aead_new(keysets[of], kn[of], &its[at]) == TINK_OK);
+      held[at] = of;
+    } else if (what == 1) {
+      tink_aead_free(&its[at]);
+      held[at] = -1;
+    } else if (what == 2) {
+      CHECK(tink_aead_new(keysets[of], kn[of] - 1, &its[at]) == TINK_BAD_KEYSET);
+    } else if (held[at] < 0) {
+      CHECK(tink_aead_encrypt(&its[at], text, sizeof text, random, 3, random, TINK_RANDOM_ENCRYPT, sealed, sizeof sealed, &sn) == TINK_CLOSED && sn == 0);
+    } else {
+      CHECK(tink_aead_encrypt(&its[at], text, sizeof text, random, 3, random, TINK_RANDOM_ENCRYPT, sealed, sizeof sealed, &sn) == TINK_OK);
+      CHECK(tink_decrypt(keysets[held[at]], kn[held[at]], sealed, sn, random, 3, opened, sizeof opened, &on) == TINK_OK);
+      CHECK(on == sizeof text && memcmp(opened, text, on) == 0);
+      CHECK(tink_aead_decrypt(&its[at], sealed, sn, random, 3, opened, sizeof opened, &on) == TINK_OK);
+      CHECK(on == sizeof text && memcmp(opened, text, on) == 0);
+      sealed[next() % sn] ^= (uint8_t)(1u << (next() % 8));
+      CHECK(tink_aead_decrypt(&its[at], sealed, sn, random, 3, opened, sizeof opened, &on) == TINK_DECRYPT_FAILED && on == 0);
+    }
+  }
+  for (int at = 0; at < 3; at++) tink_aead_free(&its[at]);
+}
+
 /* ---- threads */
 
 static const char *shared_keyset = "080512500a480a30747970652e676f6f676c65617069732e636f6d2f676f6f676c652e63727970746f2e74696e6b2e41657347636d4b657912121a10000102030405060708090a0b0c0d0e0f1801100118052001";
@@ -372,11 +486,16 @@ static void *thread(void *word) {
   data k = from_hex(shared_keyset);
   uint8_t random[16], sealed[128], opened[128];
   size_t sn, on;
+  tink_aead it = TINK_NONE;
+  if (tink_aead_new(D(k), &it) != TINK_OK) return word;
   for (int i = 0; i < 200; i++) {
     memset(random, i, sizeof random);
+    if (tink_aead_encrypt(&it, random, 16, random, 1, random, 12, sealed, sizeof sealed, &sn) != TINK_OK) return word;
+    if (tink_aead_decrypt(&it, sealed, sn, random, 1, opened, sizeof opened, &on) != TINK_OK || on != 16) return word;
     if (tink_encrypt(D(k), random, 16, random, 1, random, 12, sealed, sizeof sealed, &sn) != TINK_OK) return word;
     if (tink_decrypt(D(k), sealed, sn, random, 1, opened, sizeof opened, &on) != TINK_OK || on != 16) return word;
   }
+  tink_aead_free(&it);
   free(k.bytes);
   return NULL;
 }
@@ -396,6 +515,7 @@ int main(int argc, char **argv) {
   edges();
   threads();
   loop(argc == 4 ? atoi(argv[3]) : 64);
+  objects(argc == 4 ? atoi(argv[3]) : 64);
   printf("C: %lu checks\n", checks);
   return 0;
 }

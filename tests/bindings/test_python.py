@@ -15,7 +15,7 @@ import unittest
 sys.path.insert(0, os.path.join(os.path.dirname(os.path.abspath(__file__)), "../../bindings/python"))
 
 import tink_proved  # noqa: E402
-from tink_proved import Aead, DeterministicAead, Keyset, Mac, Prf  # noqa: E402
+from tink_proved import Aead, DeterministicAead, Keyset, Mac, Prf, Signer  # noqa: E402
 from tink_proved import _library as lib  # noqa: E402
 
 
@@ -37,17 +37,23 @@ class Vectors(unittest.TestCase):
 
     def aead(self, keyset, plaintext, data, random, ciphertext):
         self.assertEqual(lib.output("tink_encrypt", 0, keyset, plaintext, data, random), ciphertext)
+        self.assertEqual(lib.output("tink_decrypt", 0, keyset, ciphertext, data), plaintext)
         aead = Aead(Keyset(keyset))
+        self.assertEqual(aead._output("encrypt", 0, plaintext, data, random), ciphertext)
         self.assertEqual(aead.decrypt(ciphertext, data), plaintext)
         with self.assertRaises(tink_proved.DecryptFailed):
             aead.decrypt(ciphertext, data + b"x")
 
     def daead(self, keyset, plaintext, data, ciphertext):
+        self.assertEqual(lib.output("tink_encrypt_deterministically", 0, keyset, plaintext, data), ciphertext)
+        self.assertEqual(lib.output("tink_decrypt_deterministically", 0, keyset, ciphertext, data), plaintext)
         daead = DeterministicAead(Keyset(keyset))
         self.assertEqual(daead.encrypt_deterministically(plaintext, data), ciphertext)
         self.assertEqual(daead.decrypt_deterministically(ciphertext, data), plaintext)
 
     def mac(self, keyset, message, tag):
+        self.assertEqual(lib.output("tink_compute_mac", 0, keyset, message), tag)
+        lib.done("tink_verify_mac", keyset, tag, message)
         mac = Mac(Keyset(keyset))
         self.assertEqual(mac.compute_mac(message), tag)
         mac.verify_mac(tag, message)
@@ -55,11 +61,15 @@ class Vectors(unittest.TestCase):
             mac.verify_mac(tag, message + b"x")
 
     def prf(self, keyset, value, output):
+        self.assertEqual(lib.output("tink_compute_prf", 0, keyset, value, len(output)), output)
         self.assertEqual(Prf(Keyset(keyset)).compute(value, len(output)), output)
 
     def token(self, keyset, token, payload):
         self.assertEqual(tink_proved.sign_token(Keyset(keyset), payload), token)
         self.assertEqual(tink_proved.verify_token(Keyset(keyset), token), payload)
+        with Signer(Keyset(keyset)) as signer:
+            self.assertEqual(signer.sign(payload), token)
+            self.assertEqual(signer.verify(token), payload)
 
     def stream(self, keyset, data, stream, text):
         keys = Keyset(keyset)
@@ -112,6 +122,41 @@ class Keysets(unittest.TestCase):
         self.assertEqual(Keyset.unwrap(wrapped, master, b"machine-1").to_json(), keyset.to_json())
         with self.assertRaises(tink_proved.MasterFailed):
             Keyset.unwrap(wrapped, master, b"machine-2")
+
+    def test_closed(self):
+        macs = Keyset.create("HMAC_SHA256_128BITTAG")
+        calls = [
+            (Aead(Keyset.create("AES128_GCM")), [lambda it: it.encrypt(b""), lambda it: it.decrypt(b"")]),
+            (
+                DeterministicAead(Keyset.create("AES256_SIV")),
+                [lambda it: it.encrypt_deterministically(b""), lambda it: it.decrypt_deterministically(b"")],
+            ),
+            (Mac(macs), [lambda it: it.compute_mac(b""), lambda it: it.verify_mac(b"", b"")]),
+            (Prf(Keyset.create("HKDF_SHA256")), [lambda it: it.compute(b"", 16)]),
+            (Signer(macs), [lambda it: it.sign(b""), lambda it: it.verify(b"")]),
+        ]
+        for it, its in calls:
+            it.close()
+            it.close()
+            for call in its:
+                self.assertRaises(tink_proved.Closed, call, it)
+
+    def test_shared(self):
+        aead, failed = Aead(Keyset.create("AES256_GCM")), []
+
+        def work(byte):
+            try:
+                for i in range(100):
+                    assert aead.decrypt(aead.encrypt(byte * i), b"") == byte * i
+            except BaseException as error:  # noqa: B902
+                failed.append(error)
+
+        threads = [threading.Thread(target=work, args=(byte,)) for byte in (b"a", b"b", b"c")]
+        for thread in threads:
+            thread.start()
+        for thread in threads:
+            thread.join()
+        self.assertEqual(failed, [])
 
     def test_wrong_keys(self):
         with self.assertRaises(tink_proved.WrongPrimitive):
@@ -197,6 +242,7 @@ class Buffers(unittest.TestCase):
             (t.DecryptFailed, "tink_decrypt", gcm, ciphertext, b"another"),
             (t.NotRaw, "tink_compute_prf", prf.replace(b"RAW", b"TINK"), b"", 16),
             (t.BadOutputLength, "tink_compute_prf", prf, b"", 1 << 20),
+            (t.Closed, "tink_aead_encrypt", lib.Handle(), b"text", b"", bytes(12)),
         ):
             with self.subTest(name=name, error=error):
                 self.refuses(error, name, *values)
@@ -204,7 +250,7 @@ class Buffers(unittest.TestCase):
         self.assertEqual(set(tink_proved.errors.BY_STATUS.values()) - self.seen, huge)
 
     def test_exceptions(self):
-        self.assertEqual(len(tink_proved.errors.BY_STATUS), 28)
+        self.assertEqual(len(tink_proved.errors.BY_STATUS), 29)
         for status, made in tink_proved.errors.BY_STATUS.items():
             error = tink_proved.errors.error_of(status)
             self.assertIs(type(error), made)
@@ -326,13 +372,18 @@ class Statuses(unittest.TestCase):
         common = {"master": gcm, "template_name": b"AES128_GCM", "random": os.urandom(576), "start": 0, "length": 9, "output_length": 9}
         common.update(dict.fromkeys(("plaintext", "message", "input", "payload"), b"text"), id=gcm.keys()[0].id, json=True)
         common.update(associated_data=b"data", to_associated_data=b"data", to_any=False)
+        for kind in ("aead", "daead", "mac", "prf", "signer"):
+            self.objects[f"tink_{kind}_free"] = lib.Handle()
+        pools["object"] = list(self.objects.values())
         return fits, common, pools
 
     def values(self, chance, name, fits, common, pools):
         """Values for a call, of which some do not fit, or are damaged."""
-        word = next((word for word in reversed(list(fits)) if word in name), "")
+        like = name.replace("_daead", "_deterministically").replace("_signer", "_token")
+        word = next((word for word in reversed(list(fits)) if word in like), "")
+        own = self.objects.get(re.sub(r"_[a-z]+$", "_free", name))
         for argument in self.arguments[name]:
-            value = {**common, **fits[""], **fits[word]}.get(argument)
+            value = {**common, **fits[""], **fits[word], "object": own}.get(argument)
             if chance.randrange(4) == 0:
                 value = chance.choice(pools[argument])
             value = bytes(value) if isinstance(value, Keyset) else value
@@ -350,13 +401,13 @@ class Statuses(unittest.TestCase):
         return data[: chance.randrange(len(data) + 1)]
 
     def test_statuses(self):
-        chance, seen = random.Random(1), set()
+        chance, seen, self.objects = random.Random(1), set(), {}
         made = self.made(chance)
         for _ in range(400):
             for name in self.arguments:
                 values = list(self.values(chance, name, *made))
                 try:
-                    lib.done(name, *values) if name == "tink_verify_mac" else lib.output(name, 64, *values)
+                    lib.output(name, 64, *values) if lib.FUNCTIONS[name].endswith("out") else lib.done(name, *values)
                     status = "TINK_OK"
                 except tink_proved.TinkError as error:
                     status = self.names[error.status]
@@ -364,6 +415,8 @@ class Statuses(unittest.TestCase):
                 seen.add((name, status))
         self.assertEqual({name for name, status in seen if status == "TINK_OK"}, set(self.arguments))
         self.assertGreater(len(seen), 100)
+        for name, handle in self.objects.items():
+            lib.free(name, handle)
 
 
 class Streams(unittest.TestCase):

@@ -3,7 +3,7 @@
 from .errors import *  # noqa: F401,F403
 from .errors import TinkError
 from .keysets import Key, Keyset
-from .primitives import Aead, DeterministicAead, Mac, Prf, sign_token, verify_token
+from .primitives import Aead, DeterministicAead, Mac, Prf, Signer, sign_token, verify_token
 from .streams import RangeReader, open_stream, read_range, rewrap_stream, seal_stream
 
 __all__ = [
@@ -14,6 +14,7 @@ __all__ = [
     "Mac",
     "Prf",
     "RangeReader",
+    "Signer",
     "TinkError",
     "open_stream",
     "read_range",

@@ -10,7 +10,8 @@ from .errors import error_of
 # What is taken as an input.
 Data = Union[bytes, bytearray, memoryview]
 
-# What each function takes, in order. `in` is a pointer and a length; `out` a pointer, its room and where the length goes.
+# What each function takes, in order. `in` is a pointer and a length; `out` a pointer, its room and where the length goes;
+# `object` a pointer to a Handle.
 FUNCTIONS: Dict[str, str] = {
     "tink_keyset_create": "in bool in out",
     "tink_keyset_rotate": "in in bool in out",
@@ -38,6 +39,25 @@ FUNCTIONS: Dict[str, str] = {
     "tink_open_stream": "in in in out",
     "tink_read_range": "in in in u64 u64 out",
     "tink_rewrap_stream": "in in in in in in out",
+    "tink_aead_new": "in object",
+    "tink_aead_encrypt": "object in in in out",
+    "tink_aead_decrypt": "object in in out",
+    "tink_aead_free": "object",
+    "tink_daead_new": "in object",
+    "tink_daead_encrypt": "object in in out",
+    "tink_daead_decrypt": "object in in out",
+    "tink_daead_free": "object",
+    "tink_mac_new": "in object",
+    "tink_mac_compute": "object in out",
+    "tink_mac_verify": "object in in",
+    "tink_mac_free": "object",
+    "tink_prf_new": "in object",
+    "tink_prf_compute": "object in size out",
+    "tink_prf_free": "object",
+    "tink_signer_new": "in object",
+    "tink_signer_sign": "object in out",
+    "tink_signer_verify": "object in out",
+    "tink_signer_free": "object",
 }
 
 # Enough random bytes for each call that takes some.
@@ -47,12 +67,20 @@ RANDOM_STREAM = 39
 
 _TOO_LITTLE_ROOM = 42
 
+
+class Handle(ctypes.Structure):
+    """An object of the library. It begins as TINK_NONE."""
+
+    _fields_ = [("at", ctypes.c_void_p), ("full", ctypes.c_bool)]
+
+
 _NUMBERS: Dict[str, Any] = {"u32": ctypes.c_uint32, "u64": ctypes.c_uint64, "size": ctypes.c_size_t}
 
 _TYPES: Dict[str, List[Any]] = {
     "in": [ctypes.c_char_p, ctypes.c_size_t],
     "out": [ctypes.c_char_p, ctypes.c_size_t, ctypes.POINTER(ctypes.c_size_t)],
     "bool": [ctypes.c_bool],
+    "object": [ctypes.POINTER(Handle)],
     **{kind: [number] for kind, number in _NUMBERS.items()},
 }
 
@@ -82,7 +110,7 @@ def _load() -> ctypes.CDLL:
                 f"{library._name} has no {name}: it is another or an older library. Give the path of this one in TINK_LIBRARY"
             ) from None
         function.argtypes = [each for kind in kinds.split() for each in _TYPES[kind]]
-        function.restype = ctypes.c_uint8
+        function.restype = None if name.endswith("_free") else ctypes.c_uint8
     return library
 
 
@@ -118,6 +146,8 @@ def _passed(name: str, values: Any) -> List[Any]:
         if kind == "in":
             data = data_of(value)
             passed += [data, len(data)]
+        elif kind == "object":
+            passed.append(ctypes.byref(value))
         else:
             passed.append(bool(value) if kind == "bool" else number_of(kind, value))
     return passed
@@ -128,6 +158,11 @@ def done(name: str, *values: Any) -> None:
     status = getattr(_lib, name)(*_passed(name, values))
     if status != 0:
         raise error_of(status)
+
+
+def free(name: str, handle: Handle) -> None:
+    """Frees what an object holds."""
+    getattr(_lib, name)(ctypes.byref(handle))
 
 
 def output(name: str, room: int, *values: Any) -> bytes:

@@ -128,6 +128,11 @@ class TooLittleRoom(TinkError):
     text = "the buffer is too small"
 
 
+class Closed(TinkError):
+    status = 43
+    text = "the object holds no keys: it was closed"
+
+
 class DecryptFailed(TinkError):
     status = 44
     text = "no key decrypts it with this associated data"

@@ -4,7 +4,7 @@
 //! use tink_proved::{Aead, Keyset};
 //!
 //! let keyset = Keyset::create("AES256_GCM")?;
-//! let aead = Aead::new(&keyset);
+//! let aead = Aead::new(&keyset)?;
 //! let sealed = aead.encrypt(b"a value", b"its column")?;
 //! assert_eq!(aead.decrypt(&sealed, b"its column")?, b"a value");
 //! # Ok::<(), tink_proved::Error>(())
@@ -18,5 +18,5 @@ mod sys;
 
 pub use error::Error;
 pub use keyset::{Key, Keyset};
-pub use primitives::{Aead, DeterministicAead, Mac, Prf, sign_token, verify_token};
+pub use primitives::{Aead, DeterministicAead, Mac, Prf, Signer, sign_token, verify_token};
 pub use streams::{open_stream, read_range, rewrap_stream, seal_stream, RangeReader};

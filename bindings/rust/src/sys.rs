@@ -15,6 +15,7 @@ macro_rules! functions {
 type In = *const u8;
 type Out = *mut u8;
 type Len = *mut usize;
+type Object = *mut Handle;
 
 functions! {
     fn tink_keyset_create(t: In, tn: usize, json: bool, r: In, rn: usize, o: Out, on: usize, w: Len);
@@ -34,16 +35,48 @@ functions! {
     fn tink_open_stream(k: In, kn: usize, s: In, sn: usize, a: In, an: usize, o: Out, on: usize, w: Len);
     fn tink_read_range(k: In, kn: usize, s: In, sn: usize, a: In, an: usize, start: u64, length: u64, o: Out, on: usize, w: Len);
     fn tink_rewrap_stream(k: In, kn: usize, a: In, an: usize, t: In, tn: usize, ta: In, tan: usize, s: In, sn: usize, r: In, rn: usize, o: Out, on: usize, w: Len);
-    fn tink_encrypt(k: In, kn: usize, p: In, pn: usize, a: In, an: usize, r: In, rn: usize, o: Out, on: usize, w: Len);
-    fn tink_decrypt(k: In, kn: usize, c: In, cn: usize, a: In, an: usize, o: Out, on: usize, w: Len);
-    fn tink_encrypt_deterministically(k: In, kn: usize, p: In, pn: usize, a: In, an: usize, o: Out, on: usize, w: Len);
-    fn tink_decrypt_deterministically(k: In, kn: usize, c: In, cn: usize, a: In, an: usize, o: Out, on: usize, w: Len);
-    fn tink_compute_mac(k: In, kn: usize, m: In, mn: usize, o: Out, on: usize, w: Len);
-    fn tink_verify_mac(k: In, kn: usize, t: In, tn: usize, m: In, mn: usize);
-    fn tink_compute_prf(k: In, kn: usize, i: In, n: usize, length: usize, o: Out, on: usize, w: Len);
     fn tink_sign_token(k: In, kn: usize, p: In, pn: usize, o: Out, on: usize, w: Len);
     fn tink_verify_token(k: In, kn: usize, t: In, tn: usize, o: Out, on: usize, w: Len);
+    fn tink_aead_new(k: In, kn: usize, it: Object);
+    fn tink_aead_encrypt(it: Object, p: In, pn: usize, a: In, an: usize, r: In, rn: usize, o: Out, on: usize, w: Len);
+    fn tink_aead_decrypt(it: Object, c: In, cn: usize, a: In, an: usize, o: Out, on: usize, w: Len);
+    fn tink_daead_new(k: In, kn: usize, it: Object);
+    fn tink_daead_encrypt(it: Object, p: In, pn: usize, a: In, an: usize, o: Out, on: usize, w: Len);
+    fn tink_daead_decrypt(it: Object, c: In, cn: usize, a: In, an: usize, o: Out, on: usize, w: Len);
+    fn tink_mac_new(k: In, kn: usize, it: Object);
+    fn tink_mac_compute(it: Object, m: In, mn: usize, o: Out, on: usize, w: Len);
+    fn tink_mac_verify(it: Object, t: In, tn: usize, m: In, mn: usize);
+    fn tink_prf_new(k: In, kn: usize, it: Object);
+    fn tink_prf_compute(it: Object, i: In, n: usize, length: usize, o: Out, on: usize, w: Len);
+    fn tink_signer_new(k: In, kn: usize, it: Object);
+    fn tink_signer_sign(it: Object, p: In, pn: usize, o: Out, on: usize, w: Len);
+    fn tink_signer_verify(it: Object, t: In, tn: usize, o: Out, on: usize, w: Len);
 }
+
+extern "C" {
+    pub fn tink_aead_free(it: Object);
+    pub fn tink_daead_free(it: Object);
+    pub fn tink_mac_free(it: Object);
+    pub fn tink_prf_free(it: Object);
+    pub fn tink_signer_free(it: Object);
+}
+
+/// An object of the library. It begins as `NONE`.
+#[repr(C)]
+pub struct Handle {
+    at: *mut u8,
+    full: bool,
+}
+
+impl Handle {
+    pub const NONE: Handle = Handle {
+        at: std::ptr::null_mut(),
+        full: false,
+    };
+}
+
+// What an object owns may go to another thread. Calls with it come one after another, behind a lock.
+unsafe impl Send for Handle {}
 
 /// Enough random bytes for each call that takes some.
 pub const RANDOM_KEY: usize = 576;

@@ -3,7 +3,7 @@
 use std::io::{Read, Seek, SeekFrom};
 use tink_proved::{
     open_stream, read_range, rewrap_stream, seal_stream, sign_token, verify_token, Aead, DeterministicAead,
-    Error, Keyset, Mac, Prf, RangeReader,
+    Error, Keyset, Mac, Prf, RangeReader, Signer,
 };
 
 fn from_hex(word: &str) -> Vec<u8> {
@@ -25,31 +25,34 @@ fn vectors() {
         match kind {
             "aead" => {
                 let keyset = Keyset::from(d[0].clone());
-                let aead = Aead::new(&keyset);
+                let aead = Aead::new(&keyset).unwrap();
                 assert_eq!(aead.decrypt(&d[4], &d[2]).unwrap(), d[1]);
                 assert_eq!(aead.decrypt(&d[4][1..], &d[2]), Err(Error::DecryptFailed));
             }
             "daead" => {
                 let keyset = Keyset::from(d[0].clone());
-                let daead = DeterministicAead::new(&keyset);
+                let daead = DeterministicAead::new(&keyset).unwrap();
                 assert_eq!(daead.encrypt_deterministically(&d[1], &d[2]).unwrap(), d[3]);
                 assert_eq!(daead.decrypt_deterministically(&d[3], &d[2]).unwrap(), d[1]);
             }
             "mac" => {
                 let keyset = Keyset::from(d[0].clone());
-                let mac = Mac::new(&keyset);
+                let mac = Mac::new(&keyset).unwrap();
                 assert_eq!(mac.compute(&d[1]).unwrap(), d[2]);
                 assert_eq!(mac.verify(&d[2], &d[1]), Ok(()));
                 assert_eq!(mac.verify(&d[2], b"another"), Err(Error::MacMismatch));
             }
             "prf" => {
                 let keyset = Keyset::from(d[0].clone());
-                assert_eq!(Prf::new(&keyset).compute(&d[1], d[2].len()).unwrap(), d[2]);
+                assert_eq!(Prf::new(&keyset).unwrap().compute(&d[1], d[2].len()).unwrap(), d[2]);
             }
             "token" => {
                 let keyset = Keyset::from(d[0].clone());
                 assert_eq!(sign_token(&keyset, &d[2]).unwrap(), d[1]);
                 assert_eq!(verify_token(&keyset, &d[1]).unwrap(), d[2]);
+                let signer = Signer::new(&keyset).unwrap();
+                assert_eq!(signer.sign(&d[2]).unwrap(), d[1]);
+                assert_eq!(signer.verify(&d[1]).unwrap(), d[2]);
             }
             "stream" => {
                 let keyset = Keyset::from(d[0].clone());
@@ -84,13 +87,13 @@ fn vectors() {
 #[test]
 fn a_rotation() {
     let keyset = Keyset::create("AES128_GCM").unwrap();
-    let sealed = Aead::new(&keyset).encrypt(b"a value", b"its column").unwrap();
+    let sealed = Aead::new(&keyset).unwrap().encrypt(b"a value", b"its column").unwrap();
     let old = keyset.keys().unwrap()[0].id;
     let keyset = keyset.rotate("AES128_GCM").unwrap();
-    assert_eq!(Aead::new(&keyset).decrypt(&sealed, b"its column").unwrap(), b"a value");
+    assert_eq!(Aead::new(&keyset).unwrap().decrypt(&sealed, b"its column").unwrap(), b"a value");
     assert_eq!(keyset.promote(old).unwrap().disable(old), Err(Error::IsPrimary));
     let keyset = keyset.disable(old).unwrap();
-    assert_eq!(Aead::new(&keyset).decrypt(&sealed, b"its column"), Err(Error::DecryptFailed));
+    assert_eq!(Aead::new(&keyset).unwrap().decrypt(&sealed, b"its column"), Err(Error::DecryptFailed));
     let keyset = keyset.enable(old).unwrap().destroy(old).unwrap().delete(old).unwrap();
     assert_eq!(keyset.keys().unwrap().len(), 1);
     assert_eq!(keyset.add("AES128_GCM").unwrap().keys().unwrap().len(), 2);
@@ -152,6 +155,7 @@ fn all_may_be_shared() {
     shared::<DeterministicAead>();
     shared::<Mac>();
     shared::<Prf>();
+    shared::<Signer>();
     shared::<RangeReader>();
     shared::<Error>();
 }
@@ -159,15 +163,28 @@ fn all_may_be_shared() {
 #[test]
 fn functions_and_threads() {
     let functions = Keyset::create("HKDF_SHA256").unwrap();
-    let prf = Prf::new(&functions);
+    let prf = Prf::new(&functions).unwrap();
     assert_eq!(prf.compute(b"input", 16).unwrap(), prf.compute(b"input", 32).unwrap()[..16]);
     for length in [1 << 20, usize::MAX] {
         assert_eq!(prf.compute(b"input", length), Err(Error::BadOutputLength));
     }
     let keyset = Keyset::create("AES256_GCM").unwrap();
+    assert!(matches!(Mac::new(&keyset), Err(Error::WrongPrimitive)));
+    // one object, shared by threads
+    let one = Aead::new(&keyset).unwrap();
     std::thread::scope(|scope| {
         for i in 0..2 {
-            let aead = Aead::new(&keyset);
+            let one = &one;
+            scope.spawn(move || {
+                for _ in 0..50 {
+                    assert_eq!(one.decrypt(&one.encrypt(&[i; 100], b"").unwrap(), b"").unwrap(), [i; 100]);
+                }
+            });
+        }
+    });
+    std::thread::scope(|scope| {
+        for i in 0..2 {
+            let aead = Aead::new(&keyset).unwrap();
             scope.spawn(move || {
                 for _ in 0..50 {
                     let sealed = aead.encrypt(&[i; 100], b"").unwrap();

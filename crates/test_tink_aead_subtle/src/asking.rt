@@ -20,7 +20,7 @@ pub enum Asked {
     Decrypt(usize, Option<&'static [u8]>),
     /// To decrypt these bytes with that data, to nothing.
     Open(&'static [u8], &'static [u8]),
-    /// To decrypt the encrypted bytes by a copy.
+    /// To encrypt the text by the encrypted bytes as draws, and to decrypt it, by a copy and by a prepared one.
     Copy,
     /// To refuse them by this kind with a bit changed at each place.
     Changes(Kind),
@@ -42,13 +42,29 @@ fn encrypts<A: Aead>(
     }
 }
 
-fn copy_decrypts<A: Aead + CloneIn>(
+fn serves<A: Aead>(alloc: Global, aead: &A, of: &Sealed) -> Result<bool, TinkError> {
+    let mut draws = draws_of(alloc, of.sealed)?;
+    let sealed = aead.encrypt(alloc, of.text, of.data, &mut draws);
+    if !gives(sealed, of.sealed)? {
+        return Ok(false);
+    }
+    gives(aead.decrypt(alloc, of.sealed, of.data), of.text)
+}
+
+fn copy_serves<A: Aead + CloneIn>(alloc: Global, aead: &A, of: &Sealed) -> Result<bool, TinkError> {
+    match aead.try_clone(alloc) {
+        Ok(copy) => serves(alloc, &copy, of),
+        Err(e) => Err(e),
+    }
+}
+
+fn prepared_serves<A: Aead + CloneIn>(
     alloc: Global,
     aead: &A,
     of: &Sealed,
 ) -> Result<bool, TinkError> {
-    match aead.try_clone(alloc) {
-        Ok(copy) => gives(copy.decrypt(alloc, of.sealed, of.data), of.text),
+    match aead.try_prepared(alloc) {
+        Ok(prepared) => serves(alloc, &prepared, of),
         Err(e) => Err(e),
     }
 }
@@ -99,7 +115,10 @@ fn does<A: Aead + CloneIn>(
             gives(aead.decrypt(alloc, input, data), of.text)
         }
         Asked::Open(input, data) => gives(aead.decrypt(alloc, input, data), b""),
-        Asked::Copy => copy_decrypts(alloc, aead, of),
+        Asked::Copy => {
+            let first = copy_serves(alloc, aead, of)?;
+            Ok(first && prepared_serves(alloc, aead, of)?)
+        }
         Asked::Changes(kind) => refuses_changes(alloc, aead, of, *kind),
     }
 }

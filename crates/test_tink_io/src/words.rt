@@ -98,6 +98,18 @@ const EDIT_LINES: &[(&str, Want)] = &[
         Want::Wrong(Some(Action::Rotate), "missing operand", "TEMPLATE", ""),
     ),
     ("promote keys 5", Want::Spells(Action::Promote)),
+    (
+        "promote keys -1",
+        Want::Wrong(Some(Action::Promote), "no id", "", "-1"),
+    ),
+    (
+        "promote keys -1x",
+        Want::Wrong(Some(Action::Promote), "unknown option", "", "-1x"),
+    ),
+    (
+        "keys -1",
+        Want::Wrong(Some(Action::Keys), "unknown option", "", "-1"),
+    ),
     ("enable keys 0", Want::Spells(Action::Enable)),
     ("disable keys 4294967295", Want::Spells(Action::Disable)),
     (
@@ -743,6 +755,10 @@ const OPTIONS: &[(&str, Option<&str>)] = &[
     ("--lenght", Some("--length")),
     ("--no-clober", Some("--no-clobber")),
     ("--nonsense", None),
+    ("-ka", Some("-k")),
+    ("-k=a", Some("-k")),
+    ("-x", None),
+    ("-1", None),
 ];
 
 #[test]

@@ -53,10 +53,10 @@ fn new_mac(alloc: Global, of: &Of, key: &[u8]) -> Result<MacKind, TinkError> {
     }
 }
 
-// A copy, which was a primitive on its way.
+// A prepared copy of a copy, which was a primitive on its way.
 fn copy_of(alloc: Global, mac: Result<MacKind, TinkError>) -> Result<MacKind, TinkError> {
     match mac {
-        Ok(mac) => Primitive::<MacKinds>::Mac(mac.try_clone(alloc)?).into_mac(),
+        Ok(mac) => mac_of(Primitive::<MacKinds>::Mac(mac.try_clone(alloc)?).try_prepared(alloc)),
         Err(e) => Err(e),
     }
 }

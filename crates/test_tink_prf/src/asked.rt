@@ -76,11 +76,11 @@ fn new_prf(alloc: Global, of: &Of, key: &[u8]) -> Result<PrfKind, TinkError> {
     }
 }
 
-// A copy, which was a primitive on its way.
+// A prepared copy of a copy, which was a primitive on its way.
 fn copy_of(alloc: Global, prf: Result<PrfKind, TinkError>) -> Result<PrfKind, TinkError> {
     match prf {
         Ok(prf) => match prf.try_clone(alloc) {
-            Ok(copy) => Primitive::<PrfKinds>::Prf(copy).into_prf(),
+            Ok(copy) => prf_of(Primitive::<PrfKinds>::Prf(copy).try_prepared(alloc)),
             Err(e) => Err(e),
         },
         Err(e) => Err(e),

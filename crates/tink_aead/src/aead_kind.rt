@@ -28,6 +28,14 @@ impl CloneIn for AeadKind {
             AeadKind::AesGcmSiv(aead) => Ok(AeadKind::AesGcmSiv(aead.try_clone(alloc)?)),
         }
     }
+
+    fn try_prepared(&self, alloc: Global) -> Result<Self, TinkError> {
+        match self {
+            AeadKind::AesCtrHmac(aead) => Ok(AeadKind::AesCtrHmac(aead.try_prepared(alloc)?)),
+            AeadKind::AesGcm(aead) => Ok(AeadKind::AesGcm(aead.try_prepared(alloc)?)),
+            AeadKind::AesGcmSiv(aead) => Ok(AeadKind::AesGcmSiv(aead.try_prepared(alloc)?)),
+        }
+    }
 }
 
 impl Aead for AeadKind {

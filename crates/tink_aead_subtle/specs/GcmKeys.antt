@@ -1,4 +1,4 @@
--- What a key of AES-GCM holds beside its bytes.
+-- What a prepared key of AES-GCM keeps beside its bytes.
 use Rattle.std.specs.Prelude.{◌≡◌, ℕ, List, length}
 use Rattle.tink_aead_subtle.specs.declared.gcm_key.KeyedGcm.{KeyedGcm}
 use Rattle.tink_aead_subtle.specs.declared.gcm_key.KeyedGcm.TheVariants.{Short, Long}

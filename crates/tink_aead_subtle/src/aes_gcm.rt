@@ -23,8 +23,8 @@ pub const AES_GCM_IV_SIZE: usize = 12;
 pub const AES_GCM_TAG_SIZE: usize = 16;
 
 /// AES-GCM (SP 800-38D) under a key of 16 or 32 bytes. What it makes of a text is a nonce of 12
-/// draws, the ciphertext and a tag of 16 bytes. The key schedule and the tables of GHASH, some 19 KB on
-/// the heap, are made with it, and again with a copy.
+/// draws, the ciphertext and a tag of 16 bytes. `try_prepared` gives one that keeps the key schedule and the
+/// tables of GHASH, some 19 KB on the heap. Any other makes them in each call.
 #[derive(Drop)]
 pub struct AesGcm {
     key: GcmKey,
@@ -39,7 +39,7 @@ impl AesGcm {
         ensures { Answers result (sized key.now (record { key = key.now })) }
     {
         Ok(AesGcm {
-            key: GcmKey::new(alloc, AesKey::new(alloc, key)?)?,
+            key: GcmKey::new(AesKey::new(alloc, key)?),
         })
     }
 }
@@ -48,6 +48,12 @@ impl CloneIn for AesGcm {
     fn try_clone(&self, alloc: Global) -> Result<Self, TinkError> {
         Ok(AesGcm {
             key: self.key.try_clone(alloc)?,
+        })
+    }
+
+    fn try_prepared(&self, alloc: Global) -> Result<Self, TinkError> {
+        Ok(AesGcm {
+            key: self.key.try_prepared(alloc)?,
         })
     }
 }

@@ -99,6 +99,14 @@ impl<C: CloneIn, M: CloneIn> CloneIn for EncryptThenAuthenticate<C, M> {
             tag_size: self.tag_size,
         })
     }
+
+    fn try_prepared(&self, alloc: Global) -> Result<Self, TinkError> {
+        Ok(EncryptThenAuthenticate {
+            ind_cpa_cipher: self.ind_cpa_cipher.try_prepared(alloc)?,
+            mac: self.mac.try_prepared(alloc)?,
+            tag_size: self.tag_size,
+        })
+    }
 }
 
 impl<C: IndCpaCipher, M: Mac> Aead for EncryptThenAuthenticate<C, M> {

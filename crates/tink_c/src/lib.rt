@@ -5,5 +5,6 @@
 
 mod edits;
 mod keysets;
+mod objects;
 mod primitives;
 mod streams;

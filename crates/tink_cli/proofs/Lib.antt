@@ -1,1 +1,2 @@
 pub mod ClaimFacts
+pub mod CauseFacts

@@ -1,8 +1,8 @@
 //! What the words of a command line ask for.
 
-ghost use Rattle.std.specs.Prelude.{◌≡◌, ◌≤◌, Some, None, true, false, IfErr, OnErr, OnOk};
+ghost use Rattle.std.specs.Prelude.{◌≡◌, ◌≤◌, Some, true, false, IfErr, OnErr, OnOk};
 ghost use Rattle.tink_cli.specs.Claims.{EndedOverStreams, is_of_streams};
-ghost use Rattle.tink_cli.specs.Lines.{IsDoneBy, IsDoneLine, IsWrong, LeavesLine, LeavesOutputBy};
+ghost use Rattle.tink_cli.specs.Lines.{HasCauseBy, IsDoneBy, IsDoneLine, IsWrong, LeavesLine, LeavesOutputBy};
 ghost use Rattle.tink_cli_jobs.specs.Outputs.{KeepsFiles};
 ghost use Rattle.tink_system.specs.States.{KeepsSystem};
 ghost use Rattle.tink_system.specs.Statuses.{trouble_status};
@@ -43,8 +43,10 @@ pub fn run<Y: System, K: Sink, E: Sink>(
     ensures done { is_of_streams (byte_words words.now) ≡ false → result ≡ 0 → (Y.state system.old).is_known ≡ true
         → IsDoneLine (given (byte_words words.now)) (Y.state system.old) (Y.state system.new) (K.got sink.old) (K.got sink.new) }
     ensures broken { is_of_streams (byte_words words.now) ≡ false → (result ≡ 0 → ⊥) → (Y.state system.old).is_known ≡ true
-        → LeavesLine (given (byte_words words.now)) (Y.state system.old) (K.got sink.old) (K.got sink.new) result }
+        → LeavesLine (given (byte_words words.now)) (Y.state system.old) (Y.faults system.old) (Y.faults system.new)
+        (K.faults sink.old) (K.faults sink.new) (K.got sink.old) (K.got sink.new) result }
     ensures kept { (result ≡ 0 → ⊥) → (Y.state system.old).is_known ≡ true → KeepsFiles (Y.state system.old) (Y.state system.new) }
+    ensures quiet { result ≡ 0 → faults.new ≡ faults.old }
     ensures system { KeepsSystem (Y.state system.old) (Y.state system.new) }
     ensures sink { K.same sink.old sink.new }
     ensures faults { E.same faults.old faults.new }
@@ -56,7 +58,7 @@ pub fn run<Y: System, K: Sink, E: Sink>(
         Ok(given) => match command(alloc, system, &given, sink) {
             Ok(()) => 0,
             Err(trouble) => {
-                let trouble = explained(alloc, system, trouble);
+                let trouble = explained(alloc, system, given.action, trouble);
                 refusal(tell(faults, trouble))
             }
         },
@@ -86,6 +88,8 @@ fn command<'w, Y: System, K: Sink>(
         (Y.state system.old) (Y.state system.new) (K.got sink.old) (K.got sink.new)) }
     ensures broken { IfErr result (λ t. (Y.state system.old).is_known ≡ true → LeavesOutputBy given.now
         (Y.state system.old) (K.got sink.old) (K.got sink.new) (trouble_status t)) }
+    ensures refused { IfErr result (λ t. (Y.state system.old).is_known ≡ true → HasCauseBy given.now
+        (Y.state system.old) (Y.faults system.old) (Y.faults system.new) (K.faults sink.old) (K.faults sink.new) (trouble_status t)) }
     ensures kept { OnErr result ((Y.state system.old).is_known ≡ true → KeepsFiles (Y.state system.old) (Y.state system.new)) }
     ensures system { KeepsSystem (Y.state system.old) (Y.state system.new) }
     ensures later { Y.faults system.old ≤ Y.faults system.new }

@@ -123,6 +123,15 @@ fn put_option_why<E: Sink>(faults: &mut E, why: &Why<'_>)
             operand.name().as_bytes(),
             b" is missing",
         ),
+        _ => put_value_why(faults, why),
+    }
+}
+
+// What is wrong with the value of an option, or with an option that needs another.
+fn put_value_why<E: Sink>(faults: &mut E, why: &Why<'_>)
+    ensures faults { E.same faults.old faults.new }
+{
+    match why {
         Why::NoNumber(option, word) => {
             put_three(
                 faults,

@@ -1,7 +1,9 @@
 //! Where what a command makes goes.
 
-ghost use Rattle.std.specs.Prelude.{◌≡◌, IfErr, OnOk};
+ghost use Rattle.std.specs.Prelude.{◌≡◌, IfErr, OnErr, OnOk};
 ghost use Rattle.std.specs.Io.KnownBytes.{Appends};
+ghost use Rattle.tink_io.specs.Faults.{Rose};
+ghost use Rattle.tink_io.specs.Written.{AppendsPrefix};
 ghost use Rattle.tink_cli_jobs.specs.Outputs.{how_by};
 ghost use Rattle.tink_system.specs.Statuses.{trouble_status};
 
@@ -23,12 +25,14 @@ pub fn how_of(job: &Job<'_>) -> How
     }
 }
 
-/// Writes to standard output.
+/// Writes to standard output. If it fails a part is written.
 ///
 /// # Errors
 /// 12 if it fails.
 pub fn put<K: Sink>(sink: &mut K, text: &[u8]) -> Result<(), Trouble<'static>>
     ensures done { OnOk result (Appends (K.got sink.old) (K.got sink.new) text.now) }
+    ensures part { OnErr result (AppendsPrefix (K.got sink.old) (K.got sink.new) text.now) }
+    ensures cause { OnErr result (Rose (K.faults sink.old) (K.faults sink.new)) }
     ensures refused { IfErr result (λ t. trouble_status t ≡ 12) }
     ensures sink { K.same sink.old sink.new }
 {

@@ -1,4 +1,5 @@
 pub mod KeyFileLemmas
+pub mod MasterLemmas
 pub mod RefusingLemmas
 pub mod SavingLemmas
 pub mod WrappingLemmas

@@ -1,9 +1,10 @@
 //! The commands on files of keys.
 
-ghost use Rattle.std.specs.Prelude.{◌≡◌, ◌≤◌, ℕ, List, [], Some, true, IfErr, IfOk, OnErr, OnOk};
+ghost use Rattle.std.specs.Prelude.{◌≡◌, ◌≤◌, ℕ, List, [], Some, None, true, IfErr, IfOk, OnErr, OnOk};
+ghost use Rattle.tink_io.specs.Faults.{Rose};
 ghost use Rattle.tink_io.specs.Told.{Answers};
 ghost use Rattle.tink_cli_keys.specs.KeyFiles.{AreListed, IsChanged, IsConverted, IsEdited, IsGrown, IsNew, changed_file, listed_as, listed_file};
-ghost use Rattle.tink_cli_keys.specs.Refusing.{IsCaused, IsRefusedAs, LeavesOutAs, converted_by, edited_by, grown_by, made_of_file, new_by};
+ghost use Rattle.tink_cli_keys.specs.Refusing.{HasConvertCause, HasEditCause, HasGrowCause, HasListCause, HasNewCause, IsCaused, IsMissing, LeavesOut, LeavesOutAs, converted_by, listed_by, made_of_file, new_by};
 ghost use Rattle.tink_cli_keys.specs.Saving.{IsAppended};
 ghost use Rattle.tink_cli_jobs.specs.Loading.{Fails, Gives, named, whole_of};
 ghost use Rattle.tink_cli_jobs.specs.Outputs.{KeepsFiles};
@@ -35,8 +36,8 @@ pub fn make<'w, Y: System, K: Sink>(
 ) -> Result<(), Trouble<'w>>
     ensures done { OnOk result ((Y.state system.old).is_known ≡ true → IsNew line.now
         (Y.state system.old) (Y.state system.new) (K.got sink.old) (K.got sink.new)) }
-    ensures refused { IfErr result (λ t. (Y.state system.old).is_known ≡ true → IsRefusedAs (Y.faults system.old) (Y.faults system.new)
-        (new_by line.now (Y.state system.old)) (trouble_status t)) }
+    ensures refused { IfErr result (λ t. (Y.state system.old).is_known ≡ true → HasNewCause line.now (Y.state system.old)
+        (Y.faults system.old) (Y.faults system.new) (K.faults sink.old) (K.faults sink.new) (trouble_status t)) }
     ensures left { OnErr result ((Y.state system.old).is_known ≡ true → LeavesOutAs (new_by line.now (Y.state system.old)) (named line.now.output)
         (K.got sink.old) (K.got sink.new)) }
     ensures kept { OnErr result ((Y.state system.old).is_known ≡ true → KeepsFiles (Y.state system.old) (Y.state system.new)) }
@@ -74,6 +75,10 @@ pub fn show<'w, Y: System, K: Sink>(
 ) -> Result<(), Trouble<'w>>
     ensures done { OnOk result ((Y.state system.old).is_known ≡ true → AreListed line.now
         (Y.state system.old) (K.got sink.old) (K.got sink.new)) }
+    ensures refused { IfErr result (λ t. (Y.state system.old).is_known ≡ true → HasListCause line.now (Y.state system.old)
+        (Y.faults system.old) (Y.faults system.new) (K.faults sink.old) (K.faults sink.new) (trouble_status t)) }
+    ensures left { OnErr result ((Y.state system.old).is_known ≡ true → LeavesOutAs (listed_by line.now (Y.state system.old)) None
+        (K.got sink.old) (K.got sink.new)) }
     ensures state { Y.state system.new ≡ Y.state system.old }
     ensures later { Y.faults system.old ≤ Y.faults system.new }
     ensures sink { K.same sink.old sink.new }
@@ -97,6 +102,9 @@ fn put_lines<'w, K: Sink>(
 ) -> Result<(), Trouble<'w>>
     ensures done { OnOk result ((before : List ℕ) → K.got sink.old ≡ Some before
         → IsAppended (listed_file is_json file.items) before (K.got sink.new)) }
+    ensures refused { (before now : ℕ) → IfErr result (λ t. IsCaused before now (Rose (K.faults sink.old) (K.faults sink.new))
+        (listed_file is_json file.items) (trouble_status t)) }
+    ensures left { OnErr result (LeavesOut (listed_file is_json file.items) None (K.got sink.old) (K.got sink.new)) }
     ensures sink { K.same sink.old sink.new }
 {
     match lines_of(alloc, file, is_json) {
@@ -145,8 +153,8 @@ pub fn grow<'w, Y: System>(
     line: &Line<'w>,
 ) -> Result<(), Trouble<'w>>
     ensures done { OnOk result ((Y.state system.old).is_known ≡ true → IsGrown action line.now (Y.state system.old) (Y.state system.new)) }
-    ensures refused { IfErr result (λ t. (Y.state system.old).is_known ≡ true → IsRefusedAs (Y.faults system.old) (Y.faults system.new)
-        (grown_by action line.now (Y.state system.old)) (trouble_status t)) }
+    ensures refused { IfErr result (λ t. (Y.state system.old).is_known ≡ true → HasGrowCause action line.now (Y.state system.old)
+        (Y.faults system.old) (Y.faults system.new) (trouble_status t)) }
     ensures kept { OnErr result ((Y.state system.old).is_known ≡ true → KeepsFiles (Y.state system.old) (Y.state system.new)) }
     ensures system { KeepsSystem (Y.state system.old) (Y.state system.new) }
     ensures later { Y.faults system.old ≤ Y.faults system.new }
@@ -174,8 +182,8 @@ pub fn edit<'w, Y: System>(
     line: &Line<'w>,
 ) -> Result<(), Trouble<'w>>
     ensures done { OnOk result ((Y.state system.old).is_known ≡ true → IsEdited action line.now (Y.state system.old) (Y.state system.new)) }
-    ensures refused { IfErr result (λ t. (Y.state system.old).is_known ≡ true → IsRefusedAs (Y.faults system.old) (Y.faults system.new)
-        (edited_by action line.now (Y.state system.old)) (trouble_status t)) }
+    ensures refused { IfErr result (λ t. (Y.state system.old).is_known ≡ true → HasEditCause action line.now (Y.state system.old)
+        (Y.faults system.old) (Y.faults system.new) (trouble_status t)) }
     ensures kept { OnErr result ((Y.state system.old).is_known ≡ true → KeepsFiles (Y.state system.old) (Y.state system.new)) }
     ensures system { KeepsSystem (Y.state system.old) (Y.state system.new) }
     ensures random { (Y.state system.new).random ≡ (Y.state system.old).random }
@@ -212,7 +220,8 @@ fn make_change<'w, Y: System>(
     ensures done { OnOk result ((Y.state system.old).is_known ≡ true → IsChanged (changed_file change.entry) path.now
         (Y.state system.old) (Y.state system.new)) }
     ensures refused { IfErr result (λ t. (Y.state system.old).is_known ≡ true → IsCaused (Y.faults system.old) (Y.faults system.new)
-        (made_of_file (changed_file change.entry) (Y.state system.old) (Some path.now)) (trouble_status t)) }
+        (IsMissing (Y.state system.old) (Some path.now)) (made_of_file (changed_file change.entry) (Y.state system.old) (Some path.now))
+        (trouble_status t)) }
     ensures kept { OnErr result ((Y.state system.old).is_known ≡ true → KeepsFiles (Y.state system.old) (Y.state system.new)) }
     ensures system { KeepsSystem (Y.state system.old) (Y.state system.new) }
     ensures random { (Y.state system.new).random ≡ (Y.state system.old).random }
@@ -235,7 +244,8 @@ fn change_in<'w, Y: System>(
     requires { Y.Draft.has_draft draft ≡ true }
     ensures done { OnOk result ((Y.state system.old).is_known ≡ true → Y.Draft.got draft ≡ Some []
         → IsChanged (changed_file change.entry) path.now (Y.state system.old) (Y.state system.new)) }
-    ensures refused { IfErr result (λ t. (Y.state system.old).is_known ≡ true → IsCaused (Y.faults system.old) (Y.faults system.new)
+    ensures refused { IfErr result (λ t. (Y.state system.old).is_known ≡ true → Y.Draft.faults draft ≡ 0
+        → IsCaused (Y.faults system.old) (Y.faults system.new) (IsMissing (Y.state system.old) (Some path.now))
         (made_of_file (changed_file change.entry) (Y.state system.old) (Some path.now)) (trouble_status t)) }
     ensures kept { OnErr result (Y.Draft.shown draft ≡ Some ((Y.state system.old).file path.now)
         → KeepsFiles (Y.state system.old) (Y.state system.new)) }
@@ -321,8 +331,8 @@ pub fn convert<'w, Y: System, K: Sink>(
 ) -> Result<(), Trouble<'w>>
     ensures done { OnOk result ((Y.state system.old).is_known ≡ true → IsConverted line.now
         (Y.state system.old) (Y.state system.new) (K.got sink.old) (K.got sink.new)) }
-    ensures refused { IfErr result (λ t. (Y.state system.old).is_known ≡ true → IsRefusedAs (Y.faults system.old) (Y.faults system.new)
-        (converted_by line.now (Y.state system.old)) (trouble_status t)) }
+    ensures refused { IfErr result (λ t. (Y.state system.old).is_known ≡ true → HasConvertCause line.now (Y.state system.old)
+        (Y.faults system.old) (Y.faults system.new) (K.faults sink.old) (K.faults sink.new) (trouble_status t)) }
     ensures left { OnErr result ((Y.state system.old).is_known ≡ true → LeavesOutAs (converted_by line.now (Y.state system.old)) (named line.now.output)
         (K.got sink.old) (K.got sink.new)) }
     ensures kept { OnErr result ((Y.state system.old).is_known ≡ true → KeepsFiles (Y.state system.old) (Y.state system.new)) }

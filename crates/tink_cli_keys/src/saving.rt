@@ -1,13 +1,12 @@
 //! What a call made is saved: as a new file, on standard output, or in the place of a file.
 
 ghost use Rattle.std.specs.Prelude.{◌≡◌, ◌⊎◌, ◌≤◌, ◌^◌, ℕ, List, Some, None, true, false, Result, IfErr, IfSome, IsErrAnd, OnErr, OnOk, length, nat_lt};
-ghost use Rattle.std.specs.Io.KnownBytes.{Appends};
-ghost use Rattle.tink_io.specs.Written.{AppendsPrefix};
+ghost use Rattle.tink_io.specs.Faults.{Rose};
 ghost use Rattle.tink_io.specs.Told.{Answers};
 ghost use Rattle.tink_io.specs.declared.error.Kind.{Kind};
 ghost use Rattle.tink_cli_jobs.specs.Loading.{named};
 ghost use Rattle.tink_cli_jobs.specs.Outputs.{KeepsFiles, KeepsOtherFiles};
-ghost use Rattle.tink_cli_keys.specs.Refusing.{IsCaused, LeavesOut};
+ghost use Rattle.tink_cli_keys.specs.Refusing.{IsCaused, IsHindered, LeavesOut};
 ghost use Rattle.tink_cli_keys.specs.Saving.{IsAppended, IsPutNew, IsSavedNew, readable, short};
 ghost use Rattle.tink_system.specs.States.{IsSettled, KeepsSystem};
 ghost use Rattle.tink_system.specs.Statuses.{refusal_status, trouble_status};
@@ -15,8 +14,8 @@ ghost use Rattle.tink_system.specs.Statuses.{refusal_status, trouble_status};
 use std::alloc::Global;
 use tink_cli_files::save_answer;
 use tink_cli_jobs::keys::LIMIT;
-use tink_cli_jobs::named;
-use tink_io::{Kind, Place, Sink, TinkError, write_all};
+use tink_cli_jobs::{named, put};
+use tink_io::{Kind, Place, Sink, TinkError};
 use tink_proto::Bytes;
 use tink_system::{End, How, System, Trouble};
 
@@ -35,8 +34,9 @@ pub fn save_new<'w, Y: System, K: Sink>(
 ) -> Result<(), Trouble<'w>>
     ensures done { (given : Result (List ℕ) Kind) → Answers made given → OnOk result ((Y.state system.old).is_known ≡ true
         → IsSavedNew given (Y.state system.old) (Y.state system.new) output.now (K.got sink.old) (K.got sink.new)) }
-    ensures refused { (given : Result (List ℕ) Kind) → Answers made given → IfErr result (λ t. IsCaused (Y.faults system.old)
-        (Y.faults system.new) (readable given) (trouble_status t)) }
+    ensures refused { (given : Result (List ℕ) Kind) → Answers made given → IfErr result (λ t. (Y.state system.old).is_known ≡ true
+        → IsCaused (Y.faults system.old) (Y.faults system.new)
+        (IsHindered (Y.state system.old) (named (Some output.now)) (K.faults sink.old) (K.faults sink.new)) (readable given) (trouble_status t)) }
     ensures left { (given : Result (List ℕ) Kind) → Answers made given → OnErr result (LeavesOut (readable given) (named (Some output.now))
         (K.got sink.old) (K.got sink.new)) }
     ensures kept { OnErr result ((Y.state system.old).is_known ≡ true → KeepsFiles (Y.state system.old) (Y.state system.new)) }
@@ -61,8 +61,9 @@ fn save_readable<'w, Y: System, K: Sink>(
 ) -> Result<(), Trouble<'w>>
     ensures done { (given : Result (List ℕ) Kind) → Answers made given → OnOk result ((Y.state system.old).is_known ≡ true
         → IsPutNew given (Y.state system.old) (Y.state system.new) output.now (K.got sink.old) (K.got sink.new)) }
-    ensures refused { (given : Result (List ℕ) Kind) → Answers made given → IfErr result (λ t. IsCaused (Y.faults system.old)
-        (Y.faults system.new) given (trouble_status t)) }
+    ensures refused { (given : Result (List ℕ) Kind) → Answers made given → IfErr result (λ t. (Y.state system.old).is_known ≡ true
+        → IsCaused (Y.faults system.old) (Y.faults system.new)
+        (IsHindered (Y.state system.old) (named (Some output.now)) (K.faults sink.old) (K.faults sink.new)) given (trouble_status t)) }
     ensures left { (given : Result (List ℕ) Kind) → Answers made given → OnErr result (LeavesOut given (named (Some output.now))
         (K.got sink.old) (K.got sink.new)) }
     ensures kept { OnErr result ((Y.state system.old).is_known ≡ true → KeepsFiles (Y.state system.old) (Y.state system.new)) }
@@ -135,8 +136,8 @@ pub fn save_in<'w, Y: System>(
         → Y.Draft.got draft ≡ Some before → IsAppended given before ((Y.state system.new).file name.now)) }
     ensures fresh { (given : Result (List ℕ) Kind) → Answers made given → OnOk result (Y.Draft.replaces draft ≡ false
         → IfSome (Y.Draft.shown draft) (λ file. file ≡ None)) }
-    ensures refused { (given : Result (List ℕ) Kind) → Answers made given → IfErr result (λ t. IsCaused (Y.faults system.old)
-        (Y.faults system.new) given (trouble_status t)) }
+    ensures refused { (given : Result (List ℕ) Kind) → Answers made given → IfErr result (λ t. (Y.state system.old).is_known ≡ true
+        → Y.Draft.faults draft ≡ 0 → IsCaused (Y.faults system.old) (Y.faults system.new) ⊥ given (trouble_status t)) }
     ensures others { KeepsOtherFiles (Y.state system.old) (Y.state system.new) name.now }
     ensures kept { OnErr result (Y.Draft.shown draft ≡ Some ((Y.state system.old).file name.now)
         → KeepsFiles (Y.state system.old) (Y.state system.new)) }
@@ -185,6 +186,7 @@ fn end_draft<Y: System>(
     ensures settled { OnOk result (IsSettled (Y.state system.old) (Y.state system.new) name.now (Y.Draft.shown draft)) }
     ensures want { IfErr result (λ t. trouble_status t ≡ 10) }
     ensures refused { OnErr result (Y.state system.new ≡ Y.state system.old) }
+    ensures counted { (Y.state system.old).is_known ≡ true → (Y.Draft.faults draft ≡ 0 → ⊥) → Rose (Y.faults system.old) (Y.faults system.new) }
     ensures kept { Y.Draft.shown draft ≡ Some ((Y.state system.old).file name.now)
         → KeepsFiles (Y.state system.old) (Y.state system.new) }
     ensures later { Y.faults system.old ≤ Y.faults system.new }
@@ -204,8 +206,8 @@ fn put_made<'w, Y: System, K: Sink>(
 ) -> Result<(), Trouble<'w>>
     ensures done { (given : Result (List ℕ) Kind) → Answers made given → OnOk result ((before : List ℕ)
         → K.got sink.old ≡ Some before → IsAppended given before (K.got sink.new)) }
-    ensures refused { (given : Result (List ℕ) Kind) → Answers made given → IfErr result (λ t. IsCaused (Y.faults system.old)
-        (Y.faults system.new) given (trouble_status t)) }
+    ensures refused { (given : Result (List ℕ) Kind) → Answers made given → IfErr result (λ t. (Y.state system.old).is_known ≡ true
+        → IsCaused (Y.faults system.old) (Y.faults system.new) (Rose (K.faults sink.old) (K.faults sink.new)) given (trouble_status t)) }
     ensures left { (given : Result (List ℕ) Kind) → Answers made given → OnErr result (LeavesOut given None (K.got sink.old) (K.got sink.new)) }
     ensures still { system.new ≡ system.old }
     ensures sink { K.same sink.old sink.new }
@@ -218,21 +220,8 @@ fn put_made<'w, Y: System, K: Sink>(
         ));
     }
     match made {
-        Ok(bytes) => put_bytes(sink, bytes.as_slice()),
+        Ok(bytes) => put(sink, bytes.as_slice()),
         Err(e) => Err(Trouble::Refused(blamed, e.kind)),
-    }
-}
-
-// Writes to standard output. If it fails a part is written.
-fn put_bytes<K: Sink>(sink: &mut K, bytes: &[u8]) -> Result<(), Trouble<'static>>
-    ensures done { OnOk result (Appends (K.got sink.old) (K.got sink.new) bytes.now) }
-    ensures part { OnErr result (AppendsPrefix (K.got sink.old) (K.got sink.new) bytes.now) }
-    ensures refused { IfErr result (λ t. trouble_status t ≡ 12) }
-    ensures sink { K.same sink.old sink.new }
-{
-    match write_all(sink, bytes) {
-        Ok(()) => Ok(()),
-        Err(e) => Err(Trouble::Refused(b"standard output", e.kind)),
     }
 }
 

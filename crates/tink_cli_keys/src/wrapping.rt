@@ -1,12 +1,15 @@
 //! The commands that keep a file of keys under a master keyset.
 
-ghost use Rattle.std.specs.Prelude.{◌≡◌, ◌≤◌, true, false, IfOk, IfSome, OnErr, OnOk, Some};
-ghost use Rattle.tink_cli_keys.specs.Wrapping.{AreSparedWords, AreWords, IsUnwrapped, IsUnwrappedBy, IsWrapped, IsWrappedBy, IsWrappedKeys, read_twice};
+ghost use Rattle.std.specs.Prelude.{◌≡◌, ◌⊎◌, ◌≤◌, true, false, IfErr, IfOk, OnErr, OnOk, Some};
+ghost use Rattle.tink_cli_keys.specs.Refusing.{HasUnwrapCause, HasWrapCause, LeavesOut, LeavesOutAs, made_of_file, unwrapped_by, wrapped_by};
+ghost use Rattle.tink_cli_keys.specs.Saving.{readable};
+ghost use Rattle.tink_cli_keys.specs.Wrapping.{AreSparedWords, AreWordsOf, IsBarredBy, IsUnputBy, IsUnwrapped, IsUnwrappedBy, IsWrapped, IsWrappedBy, IsWrappedKeys, read_twice, unwrap_made, wrap_made};
 ghost use Rattle.tink_cli_files.specs.Masters.{IsMaster, MasterKeys};
-ghost use Rattle.tink_cli_jobs.specs.Loading.{IsMasterOf};
+ghost use Rattle.tink_cli_jobs.specs.Loading.{Fails, IsMasterOf, master_of_file, named};
 ghost use Rattle.tink_cli_jobs.specs.Outputs.{KeepsFiles};
 ghost use Rattle.tink_cli_jobs.specs.Protecting.{is_input};
 ghost use Rattle.tink_system.specs.States.{KeepsSystem};
+ghost use Rattle.tink_system.specs.Statuses.{trouble_status};
 
 use crate::saving::save_new;
 use crate::words::format_of;
@@ -31,7 +34,7 @@ struct Words<'w> {
 }
 
 fn words_of<'w>(line: &Line<'w>) -> Option<Words<'w>>
-    ensures { IfSome result (AreWords line.now) }
+    ensures { AreWordsOf line.now result }
 {
     let (Some(master), Some(output), Some(input)) = (line.keys(), line.output(), line.first())
     else {
@@ -66,6 +69,10 @@ pub fn wrap<'w, Y: System, K: Sink>(
 ) -> Result<(), Trouble<'w>>
     ensures done { OnOk result ((Y.state system.old).is_known ≡ true → IsWrapped line.now
         (Y.state system.old) (Y.state system.new) (K.got sink.old) (K.got sink.new)) }
+    ensures refused { IfErr result (λ t. (Y.state system.old).is_known ≡ true → HasWrapCause line.now (Y.state system.old)
+        (Y.faults system.old) (Y.faults system.new) (K.faults sink.old) (K.faults sink.new) (trouble_status t)) }
+    ensures left { OnErr result ((Y.state system.old).is_known ≡ true → LeavesOutAs (wrapped_by line.now (Y.state system.old)) (named line.now.output)
+        (K.got sink.old) (K.got sink.new)) }
     ensures kept { OnErr result ((Y.state system.old).is_known ≡ true → KeepsFiles (Y.state system.old) (Y.state system.new)) }
     ensures system { KeepsSystem (Y.state system.old) (Y.state system.new) }
     ensures later { Y.faults system.old ≤ Y.faults system.new }
@@ -90,6 +97,12 @@ fn wrap_under<'w, Y: System, K: Sink>(
 ) -> Result<(), Trouble<'w>>
     ensures done { OnOk result ((Y.state system.old).is_known ≡ true → (m : MasterKeys) → IsMaster m master.now
         → IsWrappedBy m words.entry (Y.state system.old) (Y.state system.new) (K.got sink.old) (K.got sink.new)) }
+    ensures refused { IfErr result (λ t. (Y.state system.old).is_known ≡ true → (m : MasterKeys) → IsMaster m master.now
+        → IsUnputBy words.entry (Y.state system.old) (Y.faults system.old) (Y.faults system.new) (K.faults sink.old) (K.faults sink.new)
+        (made_of_file (wrap_made m words.entry (Y.state system.old)) (Y.state system.old) (named (Some words.entry.input.now))) (trouble_status t)) }
+    ensures left { OnErr result ((Y.state system.old).is_known ≡ true → (m : MasterKeys) → IsMaster m master.now
+        → LeavesOut (made_of_file (wrap_made m words.entry (Y.state system.old)) (Y.state system.old) (named (Some words.entry.input.now)))
+        (named (Some words.entry.output.now)) (K.got sink.old) (K.got sink.new)) }
     ensures kept { OnErr result ((Y.state system.old).is_known ≡ true → KeepsFiles (Y.state system.old) (Y.state system.new)) }
     ensures system { KeepsSystem (Y.state system.old) (Y.state system.new) }
     ensures later { Y.faults system.old ≤ Y.faults system.new }
@@ -112,6 +125,12 @@ fn wrap_keys<'w, Y: System, K: Sink>(
 ) -> Result<(), Trouble<'w>>
     ensures done { OnOk result ((Y.state system.old).is_known ≡ true → (m : MasterKeys) → IsMaster m master.now
         → IsWrappedKeys m keys.items words.entry (Y.state system.old) (Y.state system.new) (K.got sink.old) (K.got sink.new)) }
+    ensures refused { IfErr result (λ t. (Y.state system.old).is_known ≡ true → (m : MasterKeys) → IsMaster m master.now
+        → IsUnputBy words.entry (Y.state system.old) (Y.faults system.old) (Y.faults system.new) (K.faults sink.old) (K.faults sink.new)
+        (readable (wrap_made m words.entry (Y.state system.old) keys.items)) (trouble_status t)) }
+    ensures left { OnErr result ((Y.state system.old).is_known ≡ true → (m : MasterKeys) → IsMaster m master.now
+        → LeavesOut (readable (wrap_made m words.entry (Y.state system.old) keys.items))
+        (named (Some words.entry.output.now)) (K.got sink.old) (K.got sink.new)) }
     ensures kept { OnErr result ((Y.state system.old).is_known ≡ true → KeepsFiles (Y.state system.old) (Y.state system.new)) }
     ensures system { KeepsSystem (Y.state system.old) (Y.state system.new) }
     ensures later { Y.faults system.old ≤ Y.faults system.new }
@@ -145,6 +164,10 @@ pub fn unwrap<'w, Y: System, K: Sink>(
 ) -> Result<(), Trouble<'w>>
     ensures done { OnOk result ((Y.state system.old).is_known ≡ true → IsUnwrapped line.now
         (Y.state system.old) (Y.state system.new) (K.got sink.old) (K.got sink.new)) }
+    ensures refused { IfErr result (λ t. (Y.state system.old).is_known ≡ true → HasUnwrapCause line.now (Y.state system.old)
+        (Y.faults system.old) (Y.faults system.new) (K.faults sink.old) (K.faults sink.new) (trouble_status t)) }
+    ensures left { OnErr result ((Y.state system.old).is_known ≡ true → LeavesOutAs (unwrapped_by line.now (Y.state system.old)) (named line.now.output)
+        (K.got sink.old) (K.got sink.new)) }
     ensures kept { OnErr result ((Y.state system.old).is_known ≡ true → KeepsFiles (Y.state system.old) (Y.state system.new)) }
     ensures system { KeepsSystem (Y.state system.old) (Y.state system.new) }
     ensures random { (Y.state system.new).random ≡ (Y.state system.old).random }
@@ -170,6 +193,12 @@ fn unwrap_under<'w, Y: System, K: Sink>(
 ) -> Result<(), Trouble<'w>>
     ensures done { OnOk result ((Y.state system.old).is_known ≡ true → (m : MasterKeys) → IsMaster m master.now
         → IsUnwrappedBy m words.entry (Y.state system.old) (Y.state system.new) (K.got sink.old) (K.got sink.new)) }
+    ensures refused { IfErr result (λ t. (Y.state system.old).is_known ≡ true → (m : MasterKeys) → IsMaster m master.now
+        → IsUnputBy words.entry (Y.state system.old) (Y.faults system.old) (Y.faults system.new) (K.faults sink.old) (K.faults sink.new)
+        (made_of_file (unwrap_made m words.entry) (Y.state system.old) (named (Some words.entry.input.now))) (trouble_status t)) }
+    ensures left { OnErr result ((Y.state system.old).is_known ≡ true → (m : MasterKeys) → IsMaster m master.now
+        → LeavesOut (made_of_file (unwrap_made m words.entry) (Y.state system.old) (named (Some words.entry.input.now)))
+        (named (Some words.entry.output.now)) (K.got sink.old) (K.got sink.new)) }
     ensures kept { OnErr result ((Y.state system.old).is_known ≡ true → KeepsFiles (Y.state system.old) (Y.state system.new)) }
     ensures system { KeepsSystem (Y.state system.old) (Y.state system.new) }
     ensures random { (Y.state system.new).random ≡ (Y.state system.old).random }
@@ -195,6 +224,8 @@ fn master_for<'w, Y: System>(
     ensures loaded { IfOk result (λ master. IsMasterOf (Y.state system.old) words.entry.master.now master) }
     ensures spared { OnOk result ((Y.state system.old).is_known ≡ true → AreSparedWords (Y.state system.old) words.entry) }
     ensures once { OnOk result (read_twice words.entry ≡ false) }
+    ensures refused { IfErr result (λ t. (Y.state system.old).is_known ≡ true → IsBarredBy (Y.state system.old) words.entry (trouble_status t)
+        ⊎ Fails (Y.state system.old) (Y.faults system.old) (Y.faults system.new) (master_of_file (Y.state system.old) words.entry.master.now) t) }
     ensures state { Y.state system.new ≡ Y.state system.old }
     ensures later { Y.faults system.old ≤ Y.faults system.new }
 {
@@ -207,6 +238,7 @@ fn master_for<'w, Y: System>(
 // Refuses words that read standard input for two things.
 fn spare_input<'w>(words: Words<'w>) -> Result<(), Trouble<'w>>
     ensures once { OnOk result (read_twice words.entry ≡ false) }
+    ensures refused { IfErr result (λ t. (trouble_status t ≡ 11) × (read_twice words.entry ≡ true)) }
 {
     if is_input(words.master) && is_input(words.input) {
         return Err(Trouble::Unusable(
@@ -233,6 +265,8 @@ fn spared_master<'w, Y: System>(
 ) -> Result<Master, Trouble<'w>>
     ensures loaded { IfOk result (λ master. IsMasterOf (Y.state system.old) words.entry.master.now master) }
     ensures spared { OnOk result ((Y.state system.old).is_known ≡ true → AreSparedWords (Y.state system.old) words.entry) }
+    ensures refused { IfErr result (λ t. (Y.state system.old).is_known ≡ true → IsBarredBy (Y.state system.old) words.entry (trouble_status t)
+        ⊎ Fails (Y.state system.old) (Y.faults system.old) (Y.faults system.new) (master_of_file (Y.state system.old) words.entry.master.now) t) }
     ensures state { Y.state system.new ≡ Y.state system.old }
     ensures later { Y.faults system.old ≤ Y.faults system.new }
 {
@@ -245,6 +279,8 @@ fn spared_master<'w, Y: System>(
 // The output is neither the master nor the file that is read.
 fn spare_words<'w, Y: System>(system: &mut Y, words: Words<'w>) -> Result<(), Trouble<'w>>
     ensures spared { OnOk result ((Y.state system.old).is_known ≡ true → AreSparedWords (Y.state system.old) words.entry) }
+    ensures refused { IfErr result (λ t. trouble_status t ≡ 12) }
+    ensures cause { OnErr result ((Y.state system.old).is_known ≡ true → AreSparedWords (Y.state system.old) words.entry → ⊥) }
     ensures still { system.new ≡ system.old }
 {
     let output = named(Some(words.output));

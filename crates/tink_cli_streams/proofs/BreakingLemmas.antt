@@ -51,7 +51,7 @@ or_weaker (Some name) got got_after A B f stays = stays
 or_weaker None got got_after A B f (inl stays) = inl stays
 or_weaker None got got_after A B f (inr broke) = inr (f broke)
 
-spent : (takes : Bool) (old middle : SystemState) (drawn : List ℕ) → Spends takes old middle drawn → drawn ≡ drawn_by takes old
+pub spent : (takes : Bool) (old middle : SystemState) (drawn : List ℕ) → Spends takes old middle drawn → drawn ≡ drawn_by takes old
 spent true old middle drawn spends = spends.0
 spent false old middle drawn spends = spends.0
 

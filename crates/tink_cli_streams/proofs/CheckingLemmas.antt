@@ -24,7 +24,8 @@ use Rattle.tink_cli_jobs.specs.Protecting.{names_twice, reads_twice}
 use Rattle.tink_cli_jobs.proofs.ProtectingLemmas.{twice_by_words}
 use Rattle.tink_cli_jobs.specs.declared.job.Job.{Job}
 use Rattle.tink_cli_jobs.specs.declared.keys.KeyWords.{KeyWords}
-use Rattle.tink_cli_streams.specs.Streams.{IsOpenable, MayFail}
+use Rattle.tink_cli_streams.specs.Streams.{IsChecked, IsOpenable, IsOpened, MayFail}
+use Rattle.tink_cli_streams.proofs.PerformingLemmas.{known_given}
 
 -- all of a stream is opened, or there is no memory
 pub opens : (keyset aad : List ℕ) (old : Outside) (reads writes : ℕ) (answer : Result (Option Report) TinkError) (result : Result (Unit {0}) Trouble) → old.got ≡ Some []
@@ -79,12 +80,12 @@ same_by : (s : SystemState) (one other : KeyWords) (master : Option (List ℕ)) 
 same_by s one other None keys aad = ap (λ (k : List ℕ). plain_keyset s k) keys
 same_by s one other (Some master) keys aad = same_chained s one other (master_of_file s master) keys aad
 
-same_words : (s : SystemState) (line : LineRead) (file : List ℕ) (one other : KeyWords) → IsKeyWords line file one → IsKeyWords line file other → keyset_of s one ≡ keyset_of s other
+pub same_words : (s : SystemState) (line : LineRead) (file : List ℕ) (one other : KeyWords) → IsKeyWords line file one → IsKeyWords line file other → keyset_of s one ≡ keyset_of s other
 same_words s line file one other is are =
     ap (λ (m : Option (List ℕ)). keyset_by s one m) (is.master ∙ sym are.master)
     ∙ same_by s one other (option_map (λ n. n.now) other.master) (is.keys_is ∙ sym are.keys_is) (is.master_aad ∙ sym are.master_aad)
 
-same_file : (keys : Option (List ℕ)) (one other : List ℕ) → keys ≡ Some one → keys ≡ Some other → one ≡ other
+pub same_file : (keys : Option (List ℕ)) (one other : List ℕ) → keys ≡ Some one → keys ≡ Some other → one ≡ other
 same_file keys one other is are = cc
 
 -- the keyset of a job is that of its line
@@ -107,7 +108,7 @@ fails_earlier : (before then now status : ℕ) → before ≤ then → MayFail t
 fails_earlier before then now status earlier (inl want) = inl want
 fails_earlier before then now status earlier (inr rose) = inr (Rose-earlier before then now earlier rose)
 
-same_value : (given : Result (List ℕ) Kind) (one other : List ℕ) → given ≡ Ok one → given ≡ Ok other → one ≡ other
+pub same_value : (given : Result (List ℕ) Kind) (one other : List ℕ) → given ≡ Ok one → given ≡ Ok other → one ≡ other
 same_value given one other is are = cc
 
 -- a stream that the words name is opened
@@ -135,3 +136,20 @@ without_keys line s none can_open = some_none can_open.keys.file (sym can_open.k
 -- standard input is not named twice
 pub not_twice : (line : LineRead) (job : Job) → IsJob line job → reads_twice job ≡ true → names_twice line ≡ false → ⊥
 not_twice line job is twice once = true≢false (sym twice ∙ twice_by_words line job is ∙ once)
+
+-- a whole stream was opened
+pub checked_line : (line : LineRead) (job : Job) (s middle : SystemState) (keyset : List ℕ) (result : Result (Unit {0}) Trouble) → IsJob line job → middle ≡ s
+    → (s.is_known ≡ true → keyset_of s job.keys ≡ Ok keyset) → reads_twice job ≡ false
+    → OnOk result (middle.is_known ≡ true → (text : List ℕ) × (known_content middle (option_map (λ n. n.now) job.input) ≡ Some text) × IsOpened keyset job.aad.now text)
+    → OnOk result (s.is_known ≡ true → IsChecked line s)
+checked_line line job s middle keyset (Ok done) is same loaded once opened = λ known.
+    let found = subst (λ (x : SystemState). x.is_known ≡ true → (text : List ℕ) × (known_content x (option_map (λ n. n.now) job.input) ≡ Some text) × IsOpened keyset job.aad.now text) same opened known in
+    record {
+      keyset = keyset;
+      keys = record { file = is.file; given = is.given; words = job.keys; are = is.keys; loaded = loaded known };
+      text = found.0;
+      read = ap (λ (input : Option (List ℕ)). content s input) (sym is.input) ∙ known_given s (option_map (λ n. n.now) job.input) found.0 known found.1;
+      opened = subst (λ (aad : List ℕ). IsOpened keyset aad found.0) is.aad found.2;
+      once = sym (twice_by_words line job is) ∙ once;
+    }
+checked_line line job s middle keyset (Err t) is same loaded once opened = tt

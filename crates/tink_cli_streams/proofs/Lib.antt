@@ -1,6 +1,10 @@
 pub mod BreakingLemmas
+pub mod CauseLemmas
 pub mod CheckingLemmas
+pub mod LineCauseLemmas
 pub mod MovingLemmas
 pub mod OpenableLemmas
 pub mod PerformingLemmas
+pub mod StopLemmas
+pub mod SuccessLemmas
 pub mod TrimmingLemmas

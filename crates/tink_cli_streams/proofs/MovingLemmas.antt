@@ -20,7 +20,7 @@ or_else w None = w
 or_else w (Some v) = v
 
 -- the new file of keys that the words name
-new_words : (line : LineRead) (to : Option (List ℕ)) (new : Option KeyWords) (words : KeyWords) → AreNewKeys line to new → new ≡ Some words
+pub new_words : (line : LineRead) (to : Option (List ℕ)) (new : Option KeyWords) (words : KeyWords) → AreNewKeys line to new → new ≡ Some words
     → (file : List ℕ) × (to ≡ Some file) × IsKeyWords line file words
 new_words line (Some file) (Some w) words are is = (file, refl, subst (λ (x : KeyWords). IsKeyWords line file x) (ap (or_else w) is) are)
 new_words line (Some file) None words are is = absurd are

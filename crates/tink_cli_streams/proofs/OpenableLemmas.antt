@@ -1,5 +1,5 @@
 -- What is checked or decrypted can be opened.
-use Rattle.std.proofs.Common.{◌≡◌, ℕ, List, [], refl, subst}
+use Rattle.std.proofs.Common.{◌≡◌, ℕ, List, [], subst}
 use Rattle.std.specs.Prelude.{Option, Some, None}
 use Rattle.tink_io.specs.Outside.{Outside}
 use Rattle.tink_run.specs.Run.{CanOpen}
@@ -15,7 +15,7 @@ use Rattle.tink_cli_files.specs.declared.tasks.Task.{Task}
 use Rattle.tink_cli_files.specs.declared.tasks.Task.TheVariants.{Run}
 use Rattle.tink_run.specs.declared.report.Command.TheVariants.{Open}
 use Rattle.tink_cli_streams.specs.Performing.{Makes, text_for}
-use Rattle.tink_cli_streams.specs.Streams.{IsChecked, IsMade, IsOpenable}
+use Rattle.tink_cli_streams.specs.Streams.{IsChecked, IsMade, IsOpenable, TellsOut}
 
 -- what is opened whole is a stream of the chosen key
 by_report : (keyset aad left text : List ℕ) (ends : Outside) (report : Option Report) → IsDone (Run Open) keyset aad [] left text [] ends report → CanOpen keyset aad text
@@ -33,7 +33,7 @@ checked_opens line s is = record {
   can = by_report is.keyset (data_of line.aad) is.opened.left is.text is.opened.ends is.opened.report is.opened.done;
 }
 
--- what a decryption puts on standard output is the text of a stream
+-- what a decryption puts out is the text of a stream
 made_opens : (line : LineRead) (s : SystemState) (task : Task) (keyset text drawn before : List ℕ) (after : Option (List ℕ)) → Some (Run Open) ≡ Some task
     → Makes task keyset (data_of line.aad) drawn (text_for task text) before after → CanOpen keyset (data_of line.aad) text
 made_opens line s task keyset text drawn before after is makes =
@@ -51,18 +51,18 @@ made_opens line s task keyset text drawn before after is makes =
     by_draws : (keyset aad drawn : List ℕ) → Makes (Run Open) keyset aad drawn (text_for (Run Open) text) before after → CanOpen keyset aad text
     by_draws keyset aad drawn made = of_report keyset aad drawn made.left text before made.ends made.report made.done
 
-put_opens : (line : LineRead) (s new : SystemState) (task : Task) (keyset text drawn G : List ℕ) (output after : Option (List ℕ)) → Some (Run Open) ≡ Some task → output ≡ None
-    → IsPut (λ had now. Makes task keyset (data_of line.aad) drawn (text_for task text) had now) line.no_clobber s new output (Some G) after
+put_opens : (line : LineRead) (s new : SystemState) (task : Task) (keyset text drawn : List ℕ) (output got after : Option (List ℕ)) → Some (Run Open) ≡ Some task → TellsOut s output got
+    → IsPut (λ had now. Makes task keyset (data_of line.aad) drawn (text_for task text) had now) line.no_clobber s new output got after
     → CanOpen keyset (data_of line.aad) text
-put_opens line s new task keyset text drawn G None after is none put = made_opens line s task keyset text drawn G after is (put.0 G refl)
-put_opens line s new task keyset text drawn G (Some name) after is none put = absurd (cc)
+put_opens line s new task keyset text drawn None got after is tells put = made_opens line s task keyset text drawn tells.0 after is (put.0 tells.0 tells.1)
+put_opens line s new task keyset text drawn (Some name) got after is tells put = made_opens line s task keyset text drawn [] (new.file name) is (put.0.made tells)
 
-pub decrypted_opens : (line : LineRead) (s new : SystemState) (G : List ℕ) (after : Option (List ℕ)) → named line.output ≡ None
-    → IsMade actions.Decrypt line s new (Some G) after → IsOpenable line s
-decrypted_opens line s new G after none made = record {
+pub decrypted_opens : (line : LineRead) (s new : SystemState) (got after : Option (List ℕ)) → TellsOut s (named line.output) got
+    → IsMade actions.Decrypt line s new got after → IsOpenable line s
+decrypted_opens line s new got after tells made = record {
   keyset = made.keyset;
   keys = made.keys;
   text = made.done.text;
   read = made.done.read;
-  can = put_opens line s new made.task made.keyset made.done.text made.done.drawn G (named line.output) after made.is_of none made.done.put;
+  can = put_opens line s new made.task made.keyset made.done.text made.done.drawn (named line.output) got after made.is_of tells made.done.put;
 }

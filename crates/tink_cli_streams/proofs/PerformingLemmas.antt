@@ -80,7 +80,7 @@ pub content_earlier : (old middle : SystemState) (input : Option (List ℕ)) →
 content_earlier old middle (Some name) files system = files name
 content_earlier old middle None files system = ap (λ (bytes : List ℕ). Some bytes) system.input
 
-known_given : (s : SystemState) (input : Option (List ℕ)) (text : List ℕ) → s.is_known ≡ true → known_content s input ≡ Some text → content s input ≡ Some text
+pub known_given : (s : SystemState) (input : Option (List ℕ)) (text : List ℕ) → s.is_known ≡ true → known_content s input ≡ Some text → content s input ≡ Some text
 known_given s input text known is = rw known at is
 
 -- of an input that was opened

@@ -3,7 +3,7 @@ use Rattle.std.proofs.Common.{◌≡◌, ◌<◌, ◌≤◌, ◌-◌, ◌==◌, 
 use Rattle.std.proofs.lemmas.Bool.{true≢false}
 use Rattle.std.specs.Prelude.{Option, Some, None, Result, Ok, Err}
 use Rattle.std.specs.Io.KnownBytes.{Consumes, IsAtEnd, ReadConsumes}
-use Rattle.tink_cli_streams.specs.Trimming.{ends_at, held_before, holds_back, trimmed_if, unread, without_newline}
+use Rattle.tink_cli_streams.specs.Trimming.{ends_at, holds_back, trimmed_if, unread, without_newline}
 
 -- a byte that is no newline is given
 step : (b : ℕ) (bs : List ℕ) → (b == 10) ≡ false → without_newline (b ∷ bs) ≡ b ∷ without_newline bs

@@ -1,4 +1,5 @@
 pub mod Breaking
+pub mod Causes
 pub mod Performing
 pub mod Streams
 pub mod Trimming

@@ -76,13 +76,14 @@ pub record IsOpened (keyset aad text : List ℕ) : Type 0 where
   pub ends : Outside
   pub done : IsDone (Run Open) keyset aad [] left text [] ends report
 
--- the input that the words name is opened whole
+-- the input that the words name is opened whole, and standard input is named for one thing at most
 pub record IsChecked (line : LineRead) (s : SystemState) : Type 0 where
   pub keyset : List ℕ
   pub keys : IsKeysetOf line s line.keys keyset
   pub text : List ℕ
   pub read : content s (named line.first) ≡ Some text
   pub opened : IsOpened keyset (data_of line.aad) text
+  pub once : names_twice line ≡ false
 
 -- the keyset that the words name loads, and the input is a stream of its chosen key with the data of the words
 pub record IsOpenable (line : LineRead) (s : SystemState) : Type 0 where
@@ -91,6 +92,11 @@ pub record IsOpenable (line : LineRead) (s : SystemState) : Type 0 where
   pub text : List ℕ
   pub read : content s (named line.first) ≡ Some text
   pub can : CanOpen keyset (data_of line.aad) text
+
+-- what the output gets is known: standard output tells it, or the output is no pipe and no device
+abbrev pub TellsOut : SystemState → Option (List ℕ) → Option (List ℕ) → Type 0
+TellsOut s None got = (before : List ℕ) × (got ≡ Some before)
+TellsOut s (Some output) got = s.is_stream output ≡ false
 
 -- there is no memory, or a call of the system failed
 abbrev pub MayFail : ℕ → ℕ → ℕ → Type 0

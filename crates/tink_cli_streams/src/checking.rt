@@ -1,10 +1,11 @@
 //! The command that opens a whole stream and writes nothing.
 
-ghost use Rattle.std.specs.Prelude.{◌≡◌, ◌≤◌, ℕ, List, Some, true, false, IfErr, None, OnOk, option_map};
+ghost use Rattle.std.specs.Prelude.{◌≡◌, ◌≤◌, ℕ, List, Some, true, false, IfErr, IfOk, OnOk, option_map};
 ghost use Rattle.std.specs.declared.option.Option.{Option};
 ghost use Rattle.tink_cli_jobs.specs.Loading.{named};
 ghost use Rattle.tink_cli_jobs.specs.Protecting.{names_twice};
-ghost use Rattle.tink_cli_streams.specs.Streams.{IsChecked, IsMade, IsOpenable, IsOpened, MayFail};
+ghost use Rattle.tink_cli_streams.specs.Causes.{HasMakeCause, MayStop};
+ghost use Rattle.tink_cli_streams.specs.Streams.{IsChecked, IsMade, IsOpenable, IsOpened, MayFail, TellsOut};
 ghost use Rattle.tink_cli_words.specs.LineRead.{LineRead};
 ghost use Rattle.tink_cli_words.specs.declared.form.Action.TheVariants.{Decrypt};
 ghost use Rattle.tink_run.specs.Run.{CanOpen};
@@ -12,23 +13,48 @@ ghost use Rattle.tink_system.specs.States.{SystemState, content, known_content};
 ghost use Rattle.tink_system.specs.Statuses.{trouble_status};
 
 use crate::performing::ended;
+use crate::streams::make;
 use std::alloc::Global;
 use tink_cli_files::{Task, write_task};
 use tink_cli_jobs::keys::keyset_of;
 use tink_cli_jobs::protecting::spare_input;
 use tink_cli_jobs::{Job, WRITE_FAULT, job_of};
-use tink_cli_words::Line;
-use tink_io::{Discard, Draws};
+use tink_cli_words::{Action, Line};
+use tink_io::{Discard, Draws, Sink};
 use tink_run::report::Command;
 use tink_system::{System, Trouble};
 
-/// A stream that `check` opens, or that `decrypt` decrypts to standard output, is `IsOpenable`. So if `decrypt` returns 0,
-/// `check` does too, if no call of the system fails and there is memory.
+/// A stream that `check` opens, or that `decrypt` decrypts where what the output gets is known, is `IsOpenable`. So if `decrypt`
+/// returns 0, `check` does too, if no call of the system fails and there is memory. And if `check` returned 0, `decrypt` does,
+/// and if the output can be written.
 pub fn law_checked_is_decrypted()
     ensures checked { (line : LineRead) (s : SystemState) → IsChecked line s → IsOpenable line s }
-    ensures decrypted { (line : LineRead) (old new : SystemState) (got : List ℕ) (got_after : Option (List ℕ)) → named line.output ≡ None
-        → IsMade Decrypt line old new (Some got) got_after → IsOpenable line old }
+    ensures decrypted { (line : LineRead) (old new : SystemState) (got got_after : Option (List ℕ)) → TellsOut old (named line.output) got
+        → IsMade Decrypt line old new got got_after → IsOpenable line old }
+    ensures decrypts { (line : LineRead) (s : SystemState) (before now status : ℕ) → IsChecked line s
+        → HasMakeCause Decrypt line s before now status → MayStop before now status }
 {}
+
+/// An instance of the law: the words are checked, and the same words are decrypted. The answer of the decryption is inside
+/// that of the check.
+///
+/// # Errors
+/// Those of `check`. If it gave none, an error of the decryption is for want of memory, or the output could not be
+/// written, or a call of the system failed.
+pub fn decrypt_checked<'w, Y: System, K: Sink>(
+    alloc: Global,
+    system: &mut Y,
+    line: &Line<'w>,
+    sink: &mut K,
+) -> Result<Result<(), Trouble<'w>>, Trouble<'w>>
+    ensures { IfOk result (λ answer. IfErr answer (λ t. (Y.state system.old).is_known ≡ true
+        → MayStop (Y.faults system.old) (Y.faults system.new) (trouble_status t))) }
+{
+    match check(alloc, system, line) {
+        Ok(()) => Ok(make(alloc, system, Action::Decrypt, line, sink)),
+        Err(trouble) => Err(trouble),
+    }
+}
 
 /// `check`: the whole input is opened under the keyset and the associated data that the words name, and nothing is written.
 ///

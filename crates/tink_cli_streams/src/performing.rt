@@ -2,10 +2,12 @@
 
 ghost use Rattle.std.specs.Prelude.{◌≡◌, ◌≤◌, ℕ, List, Some, None, Ok, true, false, IfErr, IfOk, IfSome, IsErrAnd, OnErr, OnOk, option_map};
 ghost use Rattle.tink_cli_jobs.specs.Outputs.{IsInFile, IsPut, KeepsFiles, KeepsOtherFiles};
-ghost use Rattle.tink_cli_streams.specs.Breaking.{Breaks, IsUnperformed, MayBreak};
+ghost use Rattle.tink_cli_streams.specs.Breaking.{Breaks, IsUnperformed, MayBreak, drawn_by};
+ghost use Rattle.tink_cli_streams.specs.Causes.{HasTaskCause, MayEnd};
 ghost use Rattle.tink_cli_streams.specs.Performing.{IsPerformed, Makes, Spends, takes_random, text_for, trims};
 ghost use Rattle.tink_cli_streams.specs.Trimming.{unread};
-ghost use Rattle.tink_system.specs.States.{KeepsSystem, known_content};
+ghost use Rattle.tink_io.specs.Faults.{Rose};
+ghost use Rattle.tink_system.specs.States.{IsOfCause, KeepsSystem, known_content};
 ghost use Rattle.tink_system.specs.Statuses.{refusal_status, trouble_status};
 
 use crate::trimming::Trimmed;
@@ -34,6 +36,9 @@ pub fn perform<'w, Y: System, K: Sink>(
         (Y.state system.old) (Y.state system.new) (K.got sink.old) (K.got sink.new)) }
     ensures broken { IfErr result (λ t. (Y.state system.old).is_known ≡ true → IsUnperformed (option_map (λ n. n.now) job.now.output)
         task.entry keyset.now job.now.aad.now (option_map (λ n. n.now) job.now.input) (Y.state system.old) (K.got sink.old) (K.got sink.new) (trouble_status t)) }
+    ensures cause { IfErr result (λ t. (Y.state system.old).is_known ≡ true → HasTaskCause task.entry keyset.now job.now.aad.now
+        (drawn_by (takes_random task.entry) (Y.state system.old)) (Y.state system.old) (option_map (λ n. n.now) job.now.input)
+        (Y.faults system.old) (Y.faults system.new) (trouble_status t)) }
     ensures kept { OnErr result ((Y.state system.old).is_known ≡ true → KeepsFiles (Y.state system.old) (Y.state system.new)) }
     ensures system { KeepsSystem (Y.state system.old) (Y.state system.new) }
     ensures later { Y.faults system.old ≤ Y.faults system.new }
@@ -53,6 +58,7 @@ fn draws_for<Y: System>(
 ) -> Result<Draws, Trouble<'static>>
     ensures drawn { IfOk result (λ d. (Y.state system.old).is_known ≡ true
         → Spends (takes_random task.entry) (Y.state system.old) (Y.state system.new) d) }
+    ensures refused { IfErr result (IsOfCause 35 (Rose (Y.faults system.old) (Y.faults system.new))) }
     ensures files { KeepsFiles (Y.state system.old) (Y.state system.new) }
     ensures system { KeepsSystem (Y.state system.old) (Y.state system.new) }
     ensures later { Y.faults system.old ≤ Y.faults system.new }
@@ -80,6 +86,8 @@ fn perform_by<'w, Y: System, K: Sink>(
     ensures broken { IfErr result (λ t. MayBreak (option_map (λ n. n.now) job.now.output) task.entry keyset.now job.now.aad.now draws.old
         (option_map (text_for task.entry) (known_content (Y.state system.old) (option_map (λ n. n.now) job.now.input)))
         (K.got sink.old) (K.got sink.new) (trouble_status t)) }
+    ensures cause { IfErr result (λ t. (Y.state system.old).is_known ≡ true → HasTaskCause task.entry keyset.now job.now.aad.now draws.old
+        (Y.state system.old) (option_map (λ n. n.now) job.now.input) (Y.faults system.old) (Y.faults system.new) (trouble_status t)) }
     ensures kept { OnErr result ((Y.state system.old).is_known ≡ true → KeepsFiles (Y.state system.old) (Y.state system.new)) }
     ensures system { KeepsSystem (Y.state system.old) (Y.state system.new) }
     ensures random { (Y.state system.new).random ≡ (Y.state system.old).random }
@@ -121,6 +129,8 @@ fn perform_on<'w, Y: System, K: Sink>(
         (Y.state system.old) (Y.state system.new) (option_map (λ n. n.now) job.now.output) (K.got sink.old) (K.got sink.new)) }
     ensures broken { IfErr result (λ t. MayBreak (option_map (λ n. n.now) job.now.output) task.entry keyset.now job.now.aad.now draws.old
         (unread input.old.trims input.old.held (Y.Input.left input.old.source)) (K.got sink.old) (K.got sink.new) (trouble_status t)) }
+    ensures cause { IfErr result (λ t. MayEnd task.entry keyset.now job.now.aad.now draws.old
+        (unread input.old.trims input.old.held (Y.Input.left input.old.source)) (trouble_status t)) }
     ensures kept { OnErr result ((Y.state system.old).is_known ≡ true → KeepsFiles (Y.state system.old) (Y.state system.new)) }
     ensures system { KeepsSystem (Y.state system.old) (Y.state system.new) }
     ensures random { (Y.state system.new).random ≡ (Y.state system.old).random }
@@ -169,6 +179,8 @@ fn put_to<'w, Y: System>(
     ensures done { OnOk result ((Y.state system.old).is_known ≡ true → (text : List ℕ) → unread input.old.trims input.old.held (Y.Input.left input.old.source) ≡ Some text
         → IsInFile (λ before after. Makes task.entry keyset.now job.now.aad.now draws.old text before after) job.now.keeps_output
         (Y.state system.old) (Y.state system.new) output.now) }
+    ensures cause { IfErr result (λ t. MayEnd task.entry keyset.now job.now.aad.now draws.old
+        (unread input.old.trims input.old.held (Y.Input.left input.old.source)) (trouble_status t)) }
     ensures kept { OnErr result ((Y.state system.old).is_known ≡ true → KeepsFiles (Y.state system.old) (Y.state system.new)) }
     ensures system { KeepsSystem (Y.state system.old) (Y.state system.new) }
     ensures random { (Y.state system.new).random ≡ (Y.state system.old).random }
@@ -191,6 +203,8 @@ fn put_to_stream<'w, Y: System>(
     input: &mut Trimmed<Y::Input>,
     output: &'w [u8],
 ) -> Result<(), Trouble<'w>>
+    ensures cause { IfErr result (λ t. MayEnd task.entry keyset.now job.now.aad.now draws.old
+        (unread input.old.trims input.old.held (Y.Input.left input.old.source)) (trouble_status t)) }
     ensures state { Y.state system.new ≡ Y.state system.old }
     ensures later { Y.faults system.old ≤ Y.faults system.new }
 {
@@ -218,6 +232,8 @@ fn put_to_file<'w, Y: System>(
     ensures done { OnOk result ((Y.state system.old).is_known ≡ true → (text : List ℕ) → unread input.old.trims input.old.held (Y.Input.left input.old.source) ≡ Some text
         → IsInFile (λ before after. Makes task.entry keyset.now job.now.aad.now draws.old text before after) job.now.keeps_output
         (Y.state system.old) (Y.state system.new) output.now) }
+    ensures cause { IfErr result (λ t. MayEnd task.entry keyset.now job.now.aad.now draws.old
+        (unread input.old.trims input.old.held (Y.Input.left input.old.source)) (trouble_status t)) }
     ensures kept { OnErr result ((Y.state system.old).is_known ≡ true → KeepsFiles (Y.state system.old) (Y.state system.new)) }
     ensures system { KeepsSystem (Y.state system.old) (Y.state system.new) }
     ensures random { (Y.state system.new).random ≡ (Y.state system.old).random }
@@ -246,6 +262,8 @@ fn put_to_draft<'w, Y: System>(
     requires { Y.Draft.has_draft draft ≡ true }
     ensures done { OnOk result ((text before : List ℕ) → unread input.old.trims input.old.held (Y.Input.left input.old.source) ≡ Some text → Y.Draft.got draft ≡ Some before
         → Makes task.entry keyset.now job.now.aad.now draws.old text before ((Y.state system.new).file output.now)) }
+    ensures cause { IfErr result (λ t. MayEnd task.entry keyset.now job.now.aad.now draws.old
+        (unread input.old.trims input.old.held (Y.Input.left input.old.source)) (trouble_status t)) }
     ensures fresh { OnOk result (Y.Draft.replaces draft ≡ false → IfSome (Y.Draft.shown draft) (λ file. file ≡ None)) }
     ensures others { KeepsOtherFiles (Y.state system.old) (Y.state system.new) output.now }
     ensures kept { OnErr result (Y.Draft.shown draft ≡ Some ((Y.state system.old).file output.now)

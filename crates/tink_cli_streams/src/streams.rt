@@ -1,9 +1,13 @@
 //! The commands over streams and tokens.
 
-ghost use Rattle.std.specs.Prelude.{◌≡◌, ◌≤◌, true, OnErr, OnOk, IfErr};
+ghost use Rattle.std.specs.Prelude.{◌≡◌, ◌≤◌, false, true, OnErr, OnOk, IfErr};
 ghost use Rattle.tink_cli_jobs.specs.Outputs.{KeepsFiles};
+ghost use Rattle.tink_cli_jobs.specs.Jobs.{IsJob, IsKeysetOf};
+ghost use Rattle.tink_cli_jobs.specs.Protecting.{names_twice};
 ghost use Rattle.tink_cli_streams.specs.Breaking.{IsUnmade};
+ghost use Rattle.tink_cli_streams.specs.Causes.{HasMakeCause, HasMoveCause, IsMakeable, MayStop};
 ghost use Rattle.tink_cli_streams.specs.Streams.{IsMade, IsMoved, IsMovedFrom, IsMovedTo, own_task};
+ghost use Rattle.tink_cli_words.specs.LineRead.{LineRead};
 ghost use Rattle.tink_system.specs.States.{KeepsSystem};
 ghost use Rattle.tink_system.specs.Statuses.{trouble_status};
 
@@ -36,15 +40,49 @@ pub fn make<'w, Y: System, K: Sink>(
         (Y.state system.old) (Y.state system.new) (K.got sink.old) (K.got sink.new)) }
     ensures broken { IfErr result (λ t. (Y.state system.old).is_known ≡ true → IsUnmade action line.now
         (Y.state system.old) (K.got sink.old) (K.got sink.new) (trouble_status t)) }
+    ensures cause { IfErr result (λ t. (Y.state system.old).is_known ≡ true → HasMakeCause action line.now (Y.state system.old)
+        (Y.faults system.old) (Y.faults system.new) (trouble_status t)) }
+
+    // If the keyset loads and the task can be done with the input, the answer is Ok, there is no memory, the output could not be
+    // written, or a call of the system failed.
+    ensures succeeds { IfErr result (λ t. (Y.state system.old).is_known ≡ true → IsMakeable action line.now (Y.state system.old)
+        → names_twice line.now ≡ false → MayStop (Y.faults system.old) (Y.faults system.new) (trouble_status t)) }
     ensures kept { OnErr result ((Y.state system.old).is_known ≡ true → KeepsFiles (Y.state system.old) (Y.state system.new)) }
     ensures system { KeepsSystem (Y.state system.old) (Y.state system.new) }
     ensures later { Y.faults system.old ≤ Y.faults system.new }
     ensures sink { K.same sink.old sink.new }
 {
-    let (Some(task), Some(job)) = (task_of(action), job_of(line)) else {
+    make_of_words(alloc, system, action, line, sink)
+}
+
+// What `make` answers. All that it promises follows from this.
+fn make_of_words<'w, Y: System, K: Sink>(
+    alloc: Global,
+    system: &mut Y,
+    action: Action,
+    line: &Line<'w>,
+    sink: &mut K,
+) -> Result<(), Trouble<'w>>
+    ensures done { OnOk result ((Y.state system.old).is_known ≡ true → IsMade action line.now
+        (Y.state system.old) (Y.state system.new) (K.got sink.old) (K.got sink.new)) }
+    ensures broken { IfErr result (λ t. (Y.state system.old).is_known ≡ true → IsUnmade action line.now
+        (Y.state system.old) (K.got sink.old) (K.got sink.new) (trouble_status t)) }
+    ensures cause { IfErr result (λ t. (Y.state system.old).is_known ≡ true → HasMakeCause action line.now (Y.state system.old)
+        (Y.faults system.old) (Y.faults system.new) (trouble_status t)) }
+    ensures kept { OnErr result ((Y.state system.old).is_known ≡ true → KeepsFiles (Y.state system.old) (Y.state system.new)) }
+    ensures system { KeepsSystem (Y.state system.old) (Y.state system.new) }
+    ensures later { Y.faults system.old ≤ Y.faults system.new }
+    ensures sink { K.same sink.old sink.new }
+{
+    let Some(task) = task_of(action) else {
         return Err(Trouble::Usage);
     };
-    spare_terminal(system, task, &job)?;
+    let Some(job) = job_of(line) else {
+        return Err(Trouble::Usage);
+    };
+    if let Err(trouble) = spare_terminal(system, task, &job) {
+        return Err(trouble);
+    }
     match keyset_for(alloc, system, &job) {
         Ok(keyset) => perform(alloc, system, task, keyset.as_slice(), &job, sink),
         Err(trouble) => Err(trouble),
@@ -63,6 +101,8 @@ pub fn rewrap<'w, Y: System, K: Sink>(
 ) -> Result<(), Trouble<'w>>
     ensures done { OnOk result ((Y.state system.old).is_known ≡ true → IsMoved line.now
         (Y.state system.old) (Y.state system.new) (K.got sink.old) (K.got sink.new)) }
+    ensures cause { IfErr result (λ t. (Y.state system.old).is_known ≡ true → HasMoveCause line.now (Y.state system.old)
+        (Y.faults system.old) (Y.faults system.new) (trouble_status t)) }
     ensures kept { OnErr result ((Y.state system.old).is_known ≡ true → KeepsFiles (Y.state system.old) (Y.state system.new)) }
     ensures system { KeepsSystem (Y.state system.old) (Y.state system.new) }
     ensures later { Y.faults system.old ≤ Y.faults system.new }
@@ -87,6 +127,9 @@ fn rewrap_from<'w, Y: System, K: Sink>(
 ) -> Result<(), Trouble<'w>>
     ensures done { OnOk result ((Y.state system.old).is_known ≡ true → IsMovedFrom keyset.now job.now
         (Y.state system.old) (Y.state system.new) (K.got sink.old) (K.got sink.new)) }
+    ensures cause { IfErr result (λ t. (Y.state system.old).is_known ≡ true → (line : LineRead) → IsJob line job.now
+        → IsKeysetOf line (Y.state system.old) line.keys keyset.now → HasMoveCause line (Y.state system.old)
+        (Y.faults system.old) (Y.faults system.new) (trouble_status t)) }
     ensures kept { OnErr result ((Y.state system.old).is_known ≡ true → KeepsFiles (Y.state system.old) (Y.state system.new)) }
     ensures system { KeepsSystem (Y.state system.old) (Y.state system.new) }
     ensures later { Y.faults system.old ≤ Y.faults system.new }
@@ -112,6 +155,9 @@ fn rewrap_to<'w, Y: System, K: Sink>(
 ) -> Result<(), Trouble<'w>>
     ensures done { OnOk result ((Y.state system.old).is_known ≡ true → IsMovedTo keyset.now to.now job.now
         (Y.state system.old) (Y.state system.new) (K.got sink.old) (K.got sink.new)) }
+    ensures cause { IfErr result (λ t. (Y.state system.old).is_known ≡ true → (line : LineRead) → IsJob line job.now
+        → IsKeysetOf line (Y.state system.old) line.keys keyset.now → IsKeysetOf line (Y.state system.old) line.to to.now
+        → HasMoveCause line (Y.state system.old) (Y.faults system.old) (Y.faults system.new) (trouble_status t)) }
     ensures kept { OnErr result ((Y.state system.old).is_known ≡ true → KeepsFiles (Y.state system.old) (Y.state system.new)) }
     ensures system { KeepsSystem (Y.state system.old) (Y.state system.new) }
     ensures later { Y.faults system.old ≤ Y.faults system.new }
@@ -121,7 +167,9 @@ fn rewrap_to<'w, Y: System, K: Sink>(
         to: to.as_slice(),
         to_aad: job.new_aad,
     };
-    spare_terminal(system, task, job)?;
+    if let Err(trouble) = spare_terminal(system, task, job) {
+        return Err(trouble);
+    }
     match perform(alloc, system, task, keyset.as_slice(), job, sink) {
         Ok(()) => Ok(()),
         Err(trouble) => Err(blamed(alloc, keyset.as_slice(), job, trouble)),
@@ -188,12 +236,33 @@ fn spare_terminal<'w, Y: System>(
         Task::Run(Command::Seal) | Task::Rewrap { to: _, to_aad: _ } => true,
         _ => false,
     };
-    if makes_stream && job.output.is_none() && !job.is_forced && system.is_terminal(End::Output) {
-        return Err(Trouble::Unusable(
-            b"standard output",
-            "it is a terminal, and ciphertext is no text: give -o OUT, redirect it, or force it by --force",
-            12,
-        ));
+    if !makes_stream || job.is_forced {
+        return Ok(());
+    }
+    match job.output {
+        None => {
+            if system.is_terminal(End::Output) {
+                return Err(unforced(
+                    b"standard output",
+                    "it is a terminal, and ciphertext is no text: give -o OUT, redirect it, or force it by --force",
+                ));
+            }
+        }
+        Some(output) => {
+            if system.leads_to_terminal(output) {
+                return Err(unforced(
+                    output,
+                    "it is a terminal, and ciphertext is no text: name a file, or force it by --force",
+                ));
+            }
+        }
     }
     Ok(())
+}
+
+// The refusal of an output that has to be forced.
+fn unforced<'w>(output: &'w [u8], why: &'static str) -> Trouble<'w>
+    ensures { trouble_status result ≡ 12 }
+{
+    Trouble::Unusable(output, why, 12)
 }

@@ -1,5 +1,5 @@
 -- Which words a command takes.
-use Rattle.std.specs.Prelude.{◌||◌, ℕ, List, [], ◌∷◌, Bool, Option, codes}
+use Rattle.std.specs.Prelude.{◌||◌, ℕ, List, [], ◌∷◌, Bool, true, false, Option, codes}
 use Rattle.tink_cli_words.specs.Words.{named_in}
 use Rattle.tink_cli_words.specs.Options.{has, is_everywhere}
 use Rattle.tink_cli_words.specs.declared.options.OptionName.{OptionName}
@@ -117,6 +117,15 @@ parts_of Wrap = key_parts (Given options.Output ∷ First operands.Keys ∷ [])
 parts_of Unwrap = key_parts (Given options.Output ∷ First operands.Wrapped ∷ [])
 parts_of Help = []
 parts_of Version = []
+
+-- a command takes the id of a key
+abbrev pub takes_id : Action → Bool
+takes_id Promote = true
+takes_id Enable = true
+takes_id Disable = true
+takes_id Destroy = true
+takes_id Delete = true
+takes_id _ = false
 
 -- how many words a command takes beside the options
 abbrev pub operands_of : Action → ℕ

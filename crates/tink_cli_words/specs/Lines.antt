@@ -2,9 +2,9 @@
 pub use Rattle.tink_cli_words.specs.LineRead.{LineRead}
 pub use Rattle.tink_cli_words.specs.Words.{is, is_option, byte_words}
 use Rattle.std.specs.Prelude.{◌+◌, ◌&&◌, ◌||◌, not, nat_lt, take, drop, map, String, string_bytes, ℕ, List, [], ◌∷◌, Bool, true, false, Option, Some, None, is_some, is_none, Result, Ok, Err, codes, if◌then◌else◌, option_and_then}
-use Rattle.tink_cli_words.specs.Words.{is_long, equals_at}
+use Rattle.tink_cli_words.specs.Words.{is_long, is_negative, equals_at}
 use Rattle.tink_cli_words.specs.Options.{has_value, option_named}
-use Rattle.tink_cli_words.specs.Actions.{action_named, operands_of, parts_of, takes}
+use Rattle.tink_cli_words.specs.Actions.{action_named, operands_of, parts_of, takes, takes_id}
 use Rattle.tink_cli_words.specs.Values.{format_of, id_of, number_of, prefix_of}
 use Rattle.tink_cli_words.specs.Texts.{TextsRead, nothing_read, value_of, with_flag, with_value}
 use Rattle.tink_cli_words.specs.declared.options.OptionName.{OptionName}
@@ -63,9 +63,13 @@ option_by action t word (Some o) = named action t o word
 abbrev pub option : Action → TextsRead → List ℕ → Result Meaning Why
 option action t word = if is word (codes "--") then Ok EndOfOptions else option_by action t word (option_named word)
 
+-- a word is no option: it begins with no dash, it is a dash alone, or it is a negative number where the id of a key may be
+abbrev pub is_operand : Action → List ℕ → Bool
+is_operand action word = not (is_option word) || (takes_id action && is_negative word)
+
 abbrev pub meaning_by : Action → TextsRead → List ℕ → Option (OptionName × List ℕ) → Result Meaning Why
 meaning_by action t word (Some awaited) = Ok (Value awaited.0 word)
-meaning_by action t word None = if t.options_end || not (is_option word) then operand action t word else option action t word
+meaning_by action t word None = if t.options_end || is_operand action word then operand action t word else option action t word
 
 -- what a word says: nothing behind a request for help, the value of the option before it, an option, or a word beside them
 abbrev pub meaning : Action → TextsRead → List ℕ → Result Meaning Why

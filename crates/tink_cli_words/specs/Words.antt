@@ -1,5 +1,7 @@
 -- Words, and tables of names.
-use Rattle.std.specs.Prelude.{map, position, Vec, ◌==◌, ◌&&◌, ℕ, List, [], ◌∷◌, Bool, false, Option, Some, None, if◌then◌else◌, bytes_eq}
+use Rattle.std.specs.Prelude.{map, drop, position, Vec, ◌==◌, ◌&&◌, ℕ, List, [], ◌∷◌, Bool, false, Option, Some, None, if◌then◌else◌, bytes_eq}
+use Rattle.std.specs.List.{list_all}
+use Rattle.std.specs.Char.{is_ascii_digit}
 use Rattle.std.specs.Borrow.{Bor}
 
 -- whether a word is this one
@@ -24,6 +26,10 @@ is_option _ = false
 abbrev pub is_long : List ℕ → Bool
 is_long (b ∷ c ∷ bs) = (b == 45) && (c == 45)
 is_long _ = false
+
+-- a dash and one or more decimal digits
+abbrev pub is_negative : List ℕ → Bool
+is_negative word = is_option word && list_all is_ascii_digit (drop 1 word)
 
 -- where the first `=` stands
 abbrev pub equals_at : List ℕ → Option ℕ

@@ -2,7 +2,7 @@
 
 ghost use Rattle.std.specs.Prelude.{◌≡◌, List, ℕ};
 ghost use Rattle.tink_cli_words.specs.Words.{value_named};
-ghost use Rattle.tink_cli_words.specs.Actions.{action_name, action_named, operands_of, options_of, parts_of, takes};
+ghost use Rattle.tink_cli_words.specs.Actions.{action_name, action_named, operands_of, options_of, parts_of, takes, takes_id};
 
 use crate::names::value_named;
 use crate::options::has;
@@ -304,6 +304,17 @@ impl Action {
             Action::Wrap => WRAP_PARTS,
             Action::Unwrap => UNWRAP_PARTS,
             Action::Templates | Action::Help | Action::Version => NO_PART,
+        }
+    }
+
+    // Whether it takes the id of a key.
+    pub(crate) fn takes_id(self) -> bool
+        ensures { result ≡ takes_id self }
+    {
+        match self {
+            Action::Promote | Action::Enable | Action::Disable | Action::Destroy | Action::Delete =>
+                true,
+            _ => false,
         }
     }
 

@@ -36,7 +36,9 @@ From nothing to a restored file:
   tink decrypt -k keys.json -o notes.again notes.tink
 
 An option with a value is written `--aad TEXT` or `--aad=TEXT`. Behind `--` no
-word is an option. Each command takes -q, --quiet and -h, --help.
+word is an option. Each command takes -q, --quiet and -h, --help. A file `-` is
+standard input, and behind -o standard output. If a command changes a file of
+keys, `-` is the name of a file.
 
 `tink seal`, `open`, `keygen` and `large` work on the standard streams, with
 keys in hexadecimal. So do `rotate` with three words behind it, and `rewrap`,
@@ -51,13 +53,13 @@ Only you may read the file. If a file KEYS exists, it stays as it is.
 
 Keep a copy of the file: without it nothing can be decrypted.
 
-  -o, --output KEYS   the file to be made
+  -o, --output KEYS   the file to be made; `-` is standard output
   --format FORMAT     json or binary; json if it is left out
   --prefix PREFIX     the bytes that the key puts before each output: tink, raw,
                       legacy or crunchy; if it is left out, those of TEMPLATE
 
-`tink templates` lists the templates. Encrypt files by AES256_GCM_HKDF_1MB, and
-sign by HMAC_SHA256_128BITTAG.
+`tink templates` lists the templates. Encrypt files by AES256_GCM_HKDF_1MB, sign
+by HMAC_SHA256_128BITTAG, and wrap files of keys by AES256_GCM.
 
   tink new AES256_GCM_HKDF_1MB -o keys.json
 ";
@@ -78,9 +80,12 @@ const KEYS: &str = "\
 tink keys [--json] KEYS
 
 Prints one line for each key: its id, its status, its prefix type, its type, and
-`primary` for the primary key. Key material is never printed.
+`primary` for the primary key. Key material is never printed. If KEYS is `-`, it
+is standard input.
 
   --json   print JSON
+
+  tink keys keys.json
 ";
 
 const TEMPLATES: &str = "\
@@ -194,11 +199,10 @@ Decrypts IN by the key of KEYS that encrypted it, and encrypts it by the primary
 key of NEWKEYS, in one pass. The plaintext is written nowhere. IN and OUT are as
 those of `tink encrypt`.
 
-  -k, --keys KEYS     the file of keys
-  --aad TEXT          the associated data. It is no secret and is not written:
-                      give the same to decrypt
-  --master MASTER     KEYS was wrapped under the file of keys MASTER
-  --master-aad TEXT   the associated data by which KEYS was wrapped
+  -k, --keys KEYS     the file of keys of IN
+  --aad TEXT          the associated data of IN
+  --master MASTER     KEYS and NEWKEYS were both wrapped under the file MASTER
+  --master-aad TEXT   the associated data by which both were wrapped
   -t, --to NEWKEYS    the file of keys of OUT
   --to-aad TEXT       the associated data of OUT, which has none without it
   -o, --output OUT    the file to be written; else standard output

@@ -1,12 +1,12 @@
 //! The words behind a command's name, one after another.
 
 ghost use Rattle.std.specs.Prelude.{◌≡◌, ◌<◌, IfSome, length, option_map};
-ghost use Rattle.tink_cli_words.specs.Lines.{allowed, assigned, ended, first_lacking, lacking, lacks, meaning, missing, named, operand, option, read_on, with_equals, with_meaning};
+ghost use Rattle.tink_cli_words.specs.Lines.{allowed, assigned, ended, first_lacking, is_operand, lacking, lacks, meaning, missing, named, operand, option, read_on, with_equals, with_meaning};
 ghost use Rattle.tink_cli_words.specs.Texts.{nothing_read, value_of, with_flag, with_value};
 ghost use Rattle.tink_cli_words.specs.Words.{byte_words, equals_at};
 
 use crate::form::Part;
-use crate::names::{is_long, is_option};
+use crate::names::{is_long, is_negative, is_option};
 use crate::{Action, OptionName, Why, Word};
 use std::marker::Model;
 
@@ -143,7 +143,7 @@ impl<'w> Texts<'w> {
         if let Some((option, _)) = self.next {
             return Ok(Meaning::Value(option, Word::new(word)));
         }
-        if self.options_end || !is_option(word) {
+        if self.options_end || is_operand(action, word) {
             return self.operand(action, word);
         }
         self.option(action, word)
@@ -360,6 +360,13 @@ impl<'w> Texts<'w> {
             Part::Second(_) => self.second.is_none(),
         }
     }
+}
+
+// Whether a word is no option: a negative number is none where the id of a key may be.
+fn is_operand(action: Action, word: &[u8]) -> bool
+    ensures { result ≡ is_operand action word.now }
+{
+    !is_option(word) || (action.takes_id() && is_negative(word))
 }
 
 // Why a line is wrong that lacks this.

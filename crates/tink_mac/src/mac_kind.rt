@@ -24,6 +24,13 @@ impl CloneIn for MacKind {
             MacKind::Hmac(mac) => Ok(MacKind::Hmac(mac.try_clone(alloc)?)),
         }
     }
+
+    fn try_prepared(&self, alloc: Global) -> Result<Self, TinkError> {
+        match self {
+            MacKind::AesCmac(mac) => Ok(MacKind::AesCmac(mac.try_prepared(alloc)?)),
+            MacKind::Hmac(mac) => Ok(MacKind::Hmac(mac.try_prepared(alloc)?)),
+        }
+    }
 }
 
 impl Mac for MacKind {

@@ -27,6 +27,14 @@ impl CloneIn for PrfKind {
             PrfKind::Hmac(prf) => Ok(PrfKind::Hmac(prf.try_clone(alloc)?)),
         }
     }
+
+    fn try_prepared(&self, alloc: Global) -> Result<Self, TinkError> {
+        match self {
+            PrfKind::AesCmac(prf) => Ok(PrfKind::AesCmac(prf.try_prepared(alloc)?)),
+            PrfKind::Hkdf(prf) => Ok(PrfKind::Hkdf(prf.try_prepared(alloc)?)),
+            PrfKind::Hmac(prf) => Ok(PrfKind::Hmac(prf.try_prepared(alloc)?)),
+        }
+    }
 }
 
 impl Prf for PrfKind {

@@ -1,6 +1,6 @@
 //! The pseudorandom functions of a keyset by the ids of their keys.
 
-ghost use Rattle.std.specs.Prelude.{◌≡◌, None, is_ok, IfErr, OnOk};
+ghost use Rattle.std.specs.Prelude.{◌≡◌, None, is_ok, IfOk, IfErr, OnOk};
 ghost use Rattle.std.specs.Ordering.{nat_cmp};
 ghost use Rattle.std.specs.BTreeMap.{IsFromIterResult};
 ghost use Rattle.tink_io.specs.declared.error.Kind.TheVariants.{OutOfMemory};
@@ -19,6 +19,9 @@ use tink_primitives::{CloneIn, KeyId, Kinds, Prf, Primitive};
 use tink_proto::{Bytes, Repeated};
 use tink_registry::{KeyManager, Registry};
 use tink_sets::{Entry, PrimitiveSet};
+
+// The most functions of a set that are prepared.
+const MOST_PREPARED: usize = 16;
 
 /// The pseudorandom functions of a keyset by the ids of their keys.
 #[derive(Drop)]
@@ -131,6 +134,21 @@ fn are_raw<K: Kinds>(groups: &BTreeMap<Vec<u8>, Repeated<Entry<K>>>) -> bool
     true
 }
 
+// An equal primitive, for a set of this size. Those of a small set are prepared for many calls.
+fn same_primitive<K: Kinds>(
+    alloc: Global,
+    p: &Primitive<K>,
+    count: usize,
+) -> Result<Primitive<K>, TinkError>
+    ensures value { IfOk result (λ copy. copy ≡ p.now) }
+    ensures cause { IfErr result (λ e. e.kind ≡ OutOfMemory) }
+{
+    if count <= MOST_PREPARED {
+        return p.try_prepared(alloc);
+    }
+    p.try_clone(alloc)
+}
+
 // The function of each id, that of the last entry that has it.
 fn prfs_by_id<K: Kinds>(
     alloc: Global,
@@ -140,7 +158,7 @@ fn prfs_by_id<K: Kinds>(
 {
     let mut prfs = BTreeMap::new(alloc);
     for entry in entries {
-        let copied = entry.primitive.try_clone(alloc)?;
+        let copied = same_primitive(alloc, &entry.primitive, entries.len())?;
         let prf = match copied.into_prf() {
             Ok(prf) => prf,
             Err(e) => return Err(e),

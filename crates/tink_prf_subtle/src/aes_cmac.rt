@@ -1,6 +1,6 @@
 //! A pseudorandom function by CMAC (SP 800-38B) over AES (FIPS 197).
 
-ghost use Rattle.std.specs.Prelude.{◌≡◌, false, length, IsTrue, MatchOption};
+ghost use Rattle.std.specs.Prelude.{◌≡◌, ⊤, false, length, IsTrue, MatchOption};
 ghost use Rattle.tink_io.specs.Told.{Tells};
 ghost use Rattle.tink_prf_subtle.specs.AesCmac.{aes_cmac_key, aes_cmac_output, aes_cmac_output_told, aes_cmac_params, cmac_of, is_aes_key_size};
 ghost use Rattle.tink_prf_subtle.specs.AesVariants.{IsKeyed, FitsVariant, variant_key};
@@ -62,23 +62,27 @@ impl AesVariant {
 }
 
 /// AES-CMAC under a key of 16, 24 or 32 bytes, which contracts see as the key. An output is the first bytes of the CMAC
-/// of the input (SP 800-38B, 6.2), at most 16. Each call makes the key's schedule, which has 2 KiB.
+/// of the input (SP 800-38B, 6.2), at most 16. A prepared one keeps the key's schedule, which has 2 KiB. Any other makes
+/// it in each call.
 #[derive(Drop)]
 pub struct AesCmacPrf {
     // The key, and zeros behind it.
     bytes: [u8; MOST_KEY_SIZE],
     size: usize,
+    kept: Option<Box<AesVariant>>,
 }
 
 impl Model for AesCmacPrf {
-    ghost use Rattle.std.specs.Prelude.{List, ℕ, IsTrue, take};
+    ghost use Rattle.std.specs.Prelude.{List, ℕ, IsTrue, take, ⊤, MatchOption};
     ghost use Rattle.tink_prf_subtle.specs.AesCmac.{is_aes_key_size};
+    ghost use Rattle.tink_prf_subtle.specs.AesVariants.{IsKeyed};
 
     ghost Value = { List ℕ };
 
     ghost view = { λ prf. take prf.size prf.bytes };
 
-    ghost invariant = { λ prf. IsTrue (is_aes_key_size prf.size) };
+    ghost invariant = { λ prf. IsTrue (is_aes_key_size prf.size)
+        × MatchOption prf.kept ⊤ (λ cipher. IsKeyed cipher.value (take prf.size prf.bytes)) };
 }
 
 impl AesCmacPrf {
@@ -106,6 +110,7 @@ impl AesCmacPrf {
         AesCmacPrf {
             bytes,
             size: key.len(),
+            kept: None,
         }
     }
 
@@ -124,7 +129,20 @@ impl AesCmacPrf {
     fn cmac(&self, text: &[u8]) -> [u8; 16]
         ensures { result ≡ cmac_of self.now text.now }
     {
-        self.cipher().cmac(text)
+        match &self.kept {
+            Some(cipher) => cipher.cmac(text),
+            None => self.cipher().cmac(text),
+        }
+    }
+
+    // The cipher on the heap, if there is memory.
+    fn kept_cipher(&self, alloc: Global) -> Option<Box<AesVariant>>
+        ensures { MatchOption result ⊤ (λ cipher. IsKeyed cipher.value self.now) }
+    {
+        match Box::new(alloc, self.cipher()) {
+            Ok(cipher) => Some(cipher),
+            Err(_) => None,
+        }
     }
 }
 
@@ -142,10 +160,21 @@ pub fn validate_aes_cmac_prf_params(key_size: usize) -> Result<(), TinkError>
 }
 
 impl CloneIn for AesCmacPrf {
+    // The copy holds its key alone.
     fn try_clone(&self, _alloc: Global) -> Result<Self, TinkError> {
         Ok(AesCmacPrf {
             bytes: self.bytes,
             size: self.size,
+            kept: None,
+        })
+    }
+
+    // Where there is no memory for the schedule, the copy works without it.
+    fn try_prepared(&self, alloc: Global) -> Result<Self, TinkError> {
+        Ok(AesCmacPrf {
+            bytes: self.bytes,
+            size: self.size,
+            kept: self.kept_cipher(alloc),
         })
     }
 }

@@ -1,11 +1,12 @@
 //! A pseudorandom function by HMAC (FIPS 198-1).
 
-ghost use Rattle.std.specs.Prelude.{◌≡◌};
+ghost use Rattle.std.specs.Prelude.{◌≡◌, ⊤, MatchOption};
+ghost use Rattle.hash_keys.specs.Hashers.{IsHmacKey};
 ghost use Rattle.tink_core_subtle.specs.Hashes.{hash_named};
 ghost use Rattle.tink_io.specs.Told.{Answers, Tells};
 ghost use Rattle.tink_prf_subtle.specs.Hmac.{hmac_key, hmac_output, hmac_output_told, hmac_params};
 
-use hash_keys::{Hash, HmacKey};
+use hash_keys::{Hash, HmacKey, hmac_into};
 use std::alloc::Global;
 use std::marker::Model;
 use tink_core_subtle::get_hash_func;
@@ -16,16 +17,18 @@ use tink_proto::{Bytes, HashType};
 const MIN_HMAC_KEY_SIZE_IN_BYTES: usize = 16;
 
 /// HMAC (FIPS 198-1) with a hash under a key. A contract sees these two. An output is the first bytes of the HMAC
-/// of the input, at most a digest.
+/// of the input, at most a digest. A prepared one keeps the states of the hash after the key's two blocks. Any other
+/// hashes these blocks in each call.
 #[derive(Drop)]
 pub struct HmacPrf {
     hash: Hash,
     key: Bytes,
     // Of that key under the hash. It has some 450 bytes: on the heap, so that a primitive of any sort is small.
-    mac: Box<HmacKey>,
+    kept: Option<Box<HmacKey>>,
 }
 
 impl Model for HmacPrf {
+    ghost use Rattle.std.specs.Prelude.{⊤, MatchOption};
     ghost use Rattle.hash_keys.specs.Hashers.{IsHmacKey};
     ghost use Rattle.tink_prf_subtle.specs.Hmac.{HmacKey};
 
@@ -33,7 +36,7 @@ impl Model for HmacPrf {
 
     ghost view = { λ prf. record { hash = prf.hash; key = prf.key } };
 
-    ghost invariant = { λ prf. IsHmacKey prf.mac.value prf.hash prf.key };
+    ghost invariant = { λ prf. MatchOption prf.kept ⊤ (λ mac. IsHmacKey mac.value prf.hash prf.key) };
 }
 
 impl HmacPrf {
@@ -50,8 +53,18 @@ impl HmacPrf {
         Ok(HmacPrf {
             hash: func.hash,
             key: Bytes::from_slice(alloc, key)?,
-            mac: Box::new(alloc, HmacKey::new(func.hash, key))?,
+            kept: None,
         })
+    }
+}
+
+// The states of a key under a hash on the heap, if there is memory.
+fn kept_of(alloc: Global, hash: Hash, key: &[u8]) -> Option<Box<HmacKey>>
+    ensures { MatchOption result ⊤ (λ mac. IsHmacKey mac.value hash key.now) }
+{
+    match Box::new(alloc, HmacKey::new(hash, key)) {
+        Ok(mac) => Some(mac),
+        Err(_) => None,
     }
 }
 
@@ -72,12 +85,23 @@ pub fn validate_hmac_prf_params(hash: HashType, key_size: usize) -> Result<(), T
 }
 
 impl CloneIn for HmacPrf {
+    // The copy holds its hash and its key alone.
     fn try_clone(&self, alloc: Global) -> Result<Self, TinkError> {
-        let copied = HmacKey::clone(&self.mac)?;
         Ok(HmacPrf {
             hash: self.hash,
             key: self.key.try_clone(alloc)?,
-            mac: Box::new(alloc, copied)?,
+            kept: None,
+        })
+    }
+
+    // Where there is no memory for the states, the copy works without them.
+    fn try_prepared(&self, alloc: Global) -> Result<Self, TinkError> {
+        let key = self.key.try_clone(alloc)?;
+        let kept = kept_of(alloc, self.hash, key.as_slice());
+        Ok(HmacPrf {
+            hash: self.hash,
+            key,
+            kept,
         })
     }
 }
@@ -95,7 +119,10 @@ impl Prf for HmacPrf {
             return Err(TinkError::new(Kind::OutputTooLong));
         }
         let mut out = vec![in alloc; 0u8; output_length]?;
-        self.mac.tag_into(input, &[], &[], &mut out);
+        match &self.kept {
+            Some(mac) => mac.tag_into(input, &[], &[], &mut out),
+            None => hmac_into(self.hash, self.key.as_slice(), input, &[], &[], &mut out),
+        }
         Ok(Bytes::from_vec(out))
     }
 

@@ -15,4 +15,15 @@ pub trait CloneIn: Drop {
     fn try_clone(&self, alloc: Global) -> Result<Self, TinkError>
         ensures value { IfOk result (λ copy. copy ≡ self.now) }
         ensures cause { IfErr result (λ e. e.kind ≡ OutOfMemory) };
+
+    /// An equal value for many calls. It may keep what each call of another one makes anew, as a key schedule.
+    ///
+    /// # Errors
+    /// `OutOfMemory` alone.
+    fn try_prepared(&self, alloc: Global) -> Result<Self, TinkError>
+        ensures value { IfOk result (λ copy. copy ≡ self.now) }
+        ensures cause { IfErr result (λ e. e.kind ≡ OutOfMemory) }
+    {
+        self.try_clone(alloc)
+    }
 }

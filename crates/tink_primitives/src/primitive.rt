@@ -164,4 +164,18 @@ impl<K: Kinds> CloneIn for Primitive<K> {
             Primitive::Verifier(p) => Primitive::Verifier(p.try_clone(alloc)?),
         })
     }
+
+    fn try_prepared(&self, alloc: Global) -> Result<Self, TinkError> {
+        Ok(match self {
+            Primitive::Aead(p) => Primitive::Aead(p.try_prepared(alloc)?),
+            Primitive::DeterministicAead(p) => Primitive::DeterministicAead(p.try_prepared(alloc)?),
+            Primitive::HybridDecrypt(p) => Primitive::HybridDecrypt(p.try_prepared(alloc)?),
+            Primitive::HybridEncrypt(p) => Primitive::HybridEncrypt(p.try_prepared(alloc)?),
+            Primitive::Mac(p) => Primitive::Mac(p.try_prepared(alloc)?),
+            Primitive::Prf(p) => Primitive::Prf(p.try_prepared(alloc)?),
+            Primitive::Signer(p) => Primitive::Signer(p.try_prepared(alloc)?),
+            Primitive::StreamingAead(p) => Primitive::StreamingAead(p.try_prepared(alloc)?),
+            Primitive::Verifier(p) => Primitive::Verifier(p.try_prepared(alloc)?),
+        })
+    }
 }

@@ -26,7 +26,7 @@ pub trait Convert<E> {
         ensures answer { Answers result (gives from.now) };
 }
 
-// Each of a list, or the first refusal.
+// Each of a list, or the first refusal. There is room for no more entries than the list has.
 #[tactic(auto, using(crate::proofs::Converted::none_before))]
 fn convert_list<E, C: Convert<E>>(
     alloc: Global,
@@ -34,7 +34,7 @@ fn convert_list<E, C: Convert<E>>(
 ) -> Result<Repeated<C::To>, TinkError>
     ensures answer { Answers result (converted C.gives entries.now) }
 {
-    let mut out = Repeated::new(alloc);
+    let mut out = Repeated::from_vec(Vec::with_capacity(alloc, entries.len())?);
     for entry in entries {
         match C::convert(alloc, entry) {
             Ok(it) => out.push(it)?,

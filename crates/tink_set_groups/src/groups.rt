@@ -61,7 +61,7 @@ pub fn put_in_group<E: Drop>(
     }
 }
 
-// Begins the list of a prefix that has none.
+// Begins the list of a prefix that has none. It has room for one entry: most keys are alone with their prefix.
 fn begin_group<E: Drop>(
     groups: &mut BTreeMap<Vec<u8>, Repeated<E>>,
     alloc: Global,
@@ -74,7 +74,7 @@ fn begin_group<E: Drop>(
     ensures cause { IfErr result (λ e. e ≡ record { kind = OutOfMemory }) }
 {
     let key = prefix.to_vec(alloc)?;
-    let mut group = Repeated::new(alloc);
+    let mut group = Repeated::from_vec(Vec::with_capacity(alloc, 1)?);
     group.push(entry)?;
     groups.insert(key, group)?;
     Ok(())

@@ -12,6 +12,9 @@ use tink_primitives::CloneIn;
 use tink_proto::Repeated;
 use tink_set_groups::{Convert, convert_groups};
 
+// The most entries of a set that is prepared whole. An entry of AES-GCM keeps some 19 KB then.
+const MOST_PREPARED: usize = 16;
+
 /// The conversion that leaves each value as it is.
 pub struct Copies;
 
@@ -23,6 +26,28 @@ impl<E: CloneIn> Convert<E> for Copies {
     fn convert(alloc: Global, from: &E) -> Result<E, TinkError> {
         from.try_clone(alloc)
     }
+}
+
+// The same, prepared for many calls.
+struct PreparedCopies;
+
+impl<E: CloneIn> Convert<E> for PreparedCopies {
+    type To = E;
+
+    ghost gives = { λ e. Ok e };
+
+    fn convert(alloc: Global, from: &E) -> Result<E, TinkError> {
+        from.try_prepared(alloc)
+    }
+}
+
+// Whether a set has so few entries that all may be prepared.
+pub(crate) fn is_small<E>(groups: &BTreeMap<Vec<u8>, Repeated<E>>) -> bool {
+    let mut count = 0usize;
+    for (_, group) in groups {
+        count = count.saturating_add(group.as_slice().len());
+    }
+    count <= MOST_PREPARED
 }
 
 /// Equal copies of a set's primary entry and of its lists of entries.
@@ -42,19 +67,18 @@ pub fn clone_set<E: CloneIn>(
     Ok((clone_primary(alloc, primary)?, copied))
 }
 
-// The same entry, where there is one.
+// The same entry, where there is one. Most calls ask it: it is prepared.
 fn clone_primary<E: CloneIn>(alloc: Global, primary: &Option<E>) -> Result<Option<E>, TinkError>
     ensures value { IfOk result (λ copy. copy ≡ primary.now) }
     ensures cause { IfErr result (λ e. e.kind ≡ OutOfMemory) }
 {
     match primary {
-        Some(entry) => Ok(Some(entry.try_clone(alloc)?)),
+        Some(entry) => Ok(Some(entry.try_prepared(alloc)?)),
         None => Ok(None),
     }
 }
 
-// The same lists under the same prefixes.
-#[tactic(auto, using(tink_set_groups::proofs::Converted::copied, tink_set_groups::proofs::Converted::never_refused))]
+// The same lists under the same prefixes. Those of a small set are prepared.
 fn clone_groups<E: CloneIn>(
     alloc: Global,
     groups: &BTreeMap<Vec<u8>, Repeated<E>>,
@@ -62,7 +86,37 @@ fn clone_groups<E: CloneIn>(
     ensures ok { IfOk result (λ copy. HaveSameGroups groups.now copy) }
     ensures cause { IfErr result (λ e. e.kind ≡ OutOfMemory) }
 {
+    if is_small(groups) {
+        return prepared_groups(alloc, groups);
+    }
+    copied_groups(alloc, groups)
+}
+
+// The same lists, of copies.
+#[tactic(auto, using(tink_set_groups::proofs::Converted::copied, tink_set_groups::proofs::Converted::never_refused))]
+fn copied_groups<E: CloneIn>(
+    alloc: Global,
+    groups: &BTreeMap<Vec<u8>, Repeated<E>>,
+) -> Result<BTreeMap<Vec<u8>, Repeated<E>>, TinkError>
+    ensures ok { IfOk result (λ copy. HaveSameGroups groups.now copy) }
+    ensures cause { IfErr result (λ e. e.kind ≡ OutOfMemory) }
+{
     match convert_groups::<E, Copies>(alloc, groups) {
+        Ok(copy) => Ok(copy),
+        Err(e) => Err(e),
+    }
+}
+
+// The same lists, of prepared copies.
+#[tactic(auto, using(tink_set_groups::proofs::Converted::copied, tink_set_groups::proofs::Converted::never_refused))]
+fn prepared_groups<E: CloneIn>(
+    alloc: Global,
+    groups: &BTreeMap<Vec<u8>, Repeated<E>>,
+) -> Result<BTreeMap<Vec<u8>, Repeated<E>>, TinkError>
+    ensures ok { IfOk result (λ copy. HaveSameGroups groups.now copy) }
+    ensures cause { IfErr result (λ e. e.kind ≡ OutOfMemory) }
+{
+    match convert_groups::<E, PreparedCopies>(alloc, groups) {
         Ok(copy) => Ok(copy),
         Err(e) => Err(e),
     }

@@ -72,11 +72,37 @@ impl<K: Kinds> CloneIn for Entry<K> {
             Err(e) => Err(e),
         }
     }
+
+    fn try_prepared(&self, alloc: Global) -> Result<Self, TinkError> {
+        match prepared_parts(alloc, &self.primitive, &self.prefix) {
+            Ok((primitive, prefix)) => Ok(Entry {
+                key_id: self.key_id,
+                primitive,
+                prefix,
+                prefix_type: self.prefix_type,
+                status: self.status,
+            }),
+            Err(e) => Err(e),
+        }
+    }
 }
 
 impl<P: CloneIn> CloneIn for TypedEntry<P> {
     fn try_clone(&self, alloc: Global) -> Result<Self, TinkError> {
         match clone_parts(alloc, &self.primitive, &self.prefix) {
+            Ok((primitive, prefix)) => Ok(TypedEntry {
+                key_id: self.key_id,
+                primitive,
+                prefix,
+                prefix_type: self.prefix_type,
+                status: self.status,
+            }),
+            Err(e) => Err(e),
+        }
+    }
+
+    fn try_prepared(&self, alloc: Global) -> Result<Self, TinkError> {
+        match prepared_parts(alloc, &self.primitive, &self.prefix) {
             Ok((primitive, prefix)) => Ok(TypedEntry {
                 key_id: self.key_id,
                 primitive,
@@ -122,6 +148,20 @@ pub(crate) fn clone_parts<P: CloneIn>(
 {
     let copied = prefix.try_clone(alloc)?;
     Ok((primitive.try_clone(alloc)?, copied))
+}
+
+// The same of a primitive that is to serve many calls.
+pub(crate) fn prepared_parts<P: CloneIn>(
+    alloc: Global,
+    primitive: &P,
+    prefix: &Bytes,
+) -> Result<(P, Bytes), TinkError>
+    ensures primitive { IfOk result (λ parts. parts.0 ≡ primitive.now) }
+    ensures prefix { IfOk result (λ parts. parts.1 ≡ prefix.now) }
+    ensures cause { IfErr result (λ e. e.kind ≡ OutOfMemory) }
+{
+    let copied = prefix.try_clone(alloc)?;
+    Ok((primitive.try_prepared(alloc)?, copied))
 }
 
 // The entry of a key and its primitive.

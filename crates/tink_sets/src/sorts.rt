@@ -9,11 +9,12 @@ ghost use Rattle.tink_primitives.specs.declared.primitive.Primitive.{Primitive};
 ghost use Rattle.tink_sets.specs.Entries.{typed_by, with_primitive};
 ghost use Rattle.tink_sets.specs.SortLaws.{aead_or_wrong, deterministic_aead_or_wrong, hybrid_decrypt_or_wrong, hybrid_encrypt_or_wrong, mac_or_wrong, prf_or_wrong, signer_or_wrong, streaming_aead_or_wrong, verifier_or_wrong};
 
-use crate::entry::{beside, clone_parts};
+use crate::entry::{beside, clone_parts, prepared_parts};
 use crate::{Entry, TypedEntry};
 use std::alloc::Global;
 use tink_io::TinkError;
 use tink_primitives::{CloneIn, Kinds, Primitive};
+use tink_proto::Bytes;
 use tink_set_groups::Convert;
 
 /// A sort of the primitives of a family.
@@ -35,7 +36,7 @@ pub trait Sort<K: Kinds> {
     ghost one_refusal: { (p : Primitive K K.Aead K.DeterministicAead K.HybridDecrypt K.HybridEncrypt K.Mac K.Prf K.Signer K.StreamingAead K.Verifier) (k : Kind) → picks p ≡ Err k → k ≡ WrongPrimitive };
 }
 
-// Entries of a sort.
+// Entries of a sort, each with a copy of its primitive.
 pub(crate) struct Typed<S>(S);
 
 impl<K: Kinds, S: Sort<K>> Convert<Entry<K>> for Typed<S> {
@@ -44,20 +45,48 @@ impl<K: Kinds, S: Sort<K>> Convert<Entry<K>> for Typed<S> {
     ghost gives = { typed_by S.picks };
 
     fn convert(alloc: Global, from: &Entry<K>) -> Result<TypedEntry<S::Of>, TinkError> {
-        let (primitive, prefix) = match clone_parts(alloc, &from.primitive, &from.prefix) {
-            Ok(parts) => parts,
-            Err(e) => return Err(e),
-        };
-        match beside(prefix, S::pick(primitive)) {
-            Ok((prefix, primitive)) => Ok(TypedEntry {
-                key_id: from.key_id,
-                primitive,
-                prefix,
-                prefix_type: from.prefix_type,
-                status: from.status,
-            }),
+        match clone_parts(alloc, &from.primitive, &from.prefix) {
+            Ok((primitive, prefix)) => typed_entry::<K, S>(primitive, prefix, from),
             Err(e) => Err(e),
         }
+    }
+}
+
+// Entries of a sort, each with a primitive that is prepared for many calls.
+pub(crate) struct Prepared<S>(S);
+
+impl<K: Kinds, S: Sort<K>> Convert<Entry<K>> for Prepared<S> {
+    type To = TypedEntry<S::Of>;
+
+    ghost gives = { typed_by S.picks };
+
+    fn convert(alloc: Global, from: &Entry<K>) -> Result<TypedEntry<S::Of>, TinkError> {
+        match prepared_parts(alloc, &from.primitive, &from.prefix) {
+            Ok((primitive, prefix)) => typed_entry::<K, S>(primitive, prefix, from),
+            Err(e) => Err(e),
+        }
+    }
+}
+
+// An entry as one of a sort, by copies of its primitive and its prefix.
+fn typed_entry<K: Kinds, S: Sort<K>>(
+    primitive: Primitive<K>,
+    prefix: Bytes,
+    from: &Entry<K>,
+) -> Result<TypedEntry<S::Of>, TinkError>
+    requires primitive { primitive ≡ from.now.primitive }
+    requires prefix { prefix ≡ from.now.prefix }
+    ensures answer { Answers result (typed_by S.picks from.now) }
+{
+    match beside(prefix, S::pick(primitive)) {
+        Ok((prefix, primitive)) => Ok(TypedEntry {
+            key_id: from.key_id,
+            primitive,
+            prefix,
+            prefix_type: from.prefix_type,
+            status: from.status,
+        }),
+        Err(e) => Err(e),
     }
 }
 

@@ -7,11 +7,11 @@ ghost use Rattle.tink_set_groups.specs.Groups.{group_at, HaveSameGroups};
 ghost use Rattle.tink_set_groups.specs.Converting.{HasRefused};
 ghost use Rattle.tink_sets.specs.Entries.{typed_by, AreNotTyped, AreTyped, IsTypedPrimary, IsRefusedPrimary};
 
-use crate::copying::clone_set;
+use crate::copying::{clone_set, is_small};
 use crate::cryptofmt::RAW_PREFIX;
 use crate::sorts::{
-    Aeads, DeterministicAeads, HybridDecrypters, HybridEncrypters, Macs, Prfs, Signers, Sort,
-    StreamingAeads, Typed, Verifiers,
+    Aeads, DeterministicAeads, HybridDecrypters, HybridEncrypters, Macs, Prepared, Prfs, Signers,
+    Sort, StreamingAeads, Typed, Verifiers,
 };
 use crate::{Entry, PrimitiveSet, TypedEntry};
 use std::alloc::Global;
@@ -235,7 +235,7 @@ impl<P: CloneIn> TypedPrimitiveSet<P> {
     }
 }
 
-// The primary entry as one of a sort.
+// The primary entry as one of a sort. It is prepared for many calls.
 fn typed_primary<K: Kinds, S: Sort<K>>(
     alloc: Global,
     primary: &Option<Entry<K>>,
@@ -245,7 +245,7 @@ fn typed_primary<K: Kinds, S: Sort<K>>(
         ⊎ ((e.kind ≡ WrongPrimitive) × IsRefusedPrimary S.picks primary.now WrongPrimitive)) }
 {
     match primary {
-        Some(entry) => match Typed::<S>::convert(alloc, entry) {
+        Some(entry) => match Prepared::<S>::convert(alloc, entry) {
             Ok(typed) => Ok(Some(typed)),
             Err(e) => Err(e),
         },
@@ -253,7 +253,7 @@ fn typed_primary<K: Kinds, S: Sort<K>>(
     }
 }
 
-// The other entries as some of a sort.
+// The other entries as some of a sort. Those of a small set are prepared for many calls.
 fn typed_groups<K: Kinds, S: Sort<K>>(
     alloc: Global,
     groups: &BTreeMap<Vec<u8>, Repeated<Entry<K>>>,
@@ -262,7 +262,37 @@ fn typed_groups<K: Kinds, S: Sort<K>>(
     ensures cause { IfErr result (λ e. (e.kind ≡ OutOfMemory)
         ⊎ ((e.kind ≡ WrongPrimitive) × HasRefused (typed_by S.picks) groups.now WrongPrimitive)) }
 {
+    if is_small(groups) {
+        return prepared_groups::<K, S>(alloc, groups);
+    }
+    copied_groups::<K, S>(alloc, groups)
+}
+
+// The other entries as some of a sort, each with a copy of its primitive.
+fn copied_groups<K: Kinds, S: Sort<K>>(
+    alloc: Global,
+    groups: &BTreeMap<Vec<u8>, Repeated<Entry<K>>>,
+) -> Result<BTreeMap<Vec<u8>, Repeated<TypedEntry<S::Of>>>, TinkError>
+    ensures ok { IfOk result (λ typed. AreTyped S.picks groups.now typed) }
+    ensures cause { IfErr result (λ e. (e.kind ≡ OutOfMemory)
+        ⊎ ((e.kind ≡ WrongPrimitive) × HasRefused (typed_by S.picks) groups.now WrongPrimitive)) }
+{
     match convert_groups::<Entry<K>, Typed<S>>(alloc, groups) {
+        Ok(typed) => Ok(typed),
+        Err(e) => Err(e),
+    }
+}
+
+// The other entries as some of a sort, each with a prepared primitive.
+fn prepared_groups<K: Kinds, S: Sort<K>>(
+    alloc: Global,
+    groups: &BTreeMap<Vec<u8>, Repeated<Entry<K>>>,
+) -> Result<BTreeMap<Vec<u8>, Repeated<TypedEntry<S::Of>>>, TinkError>
+    ensures ok { IfOk result (λ typed. AreTyped S.picks groups.now typed) }
+    ensures cause { IfErr result (λ e. (e.kind ≡ OutOfMemory)
+        ⊎ ((e.kind ≡ WrongPrimitive) × HasRefused (typed_by S.picks) groups.now WrongPrimitive)) }
+{
+    match convert_groups::<Entry<K>, Prepared<S>>(alloc, groups) {
         Ok(typed) => Ok(typed),
         Err(e) => Err(e),
     }

@@ -1,7 +1,7 @@
 -- Whether a stream begins under a key, by the bytes that are held of it.
 use Rattle.std.proofs.Common.{◌≡◌, inl, inr, ◌≤◌, ◌<◌, ◌+◌, ◌-◌, ℕ, Bool, List, [], ◌∷◌, ◌++◌, length, take, drop, Some, None, IfSome, ap, sym, ◌∙◌, subst, arith, length-append, length-drop, bytes_eq, nat_eq, slice_index, ◌&&◌}
 use Rattle.std.proofs.lemmas.List.{take-append-le, drop-append-le, drop-take, get_or_append_left}
-use Rattle.std.specs.Prelude.{MatchResult, Result, Ok, Err, Vec, false, true, vec_capacity}
+use Rattle.std.specs.Prelude.{false, true, vec_capacity}
 use Rattle.std.specs.declared.option.Option.{Option}
 use Rattle.std.specs.Io.KnownBytes.{Keeps, prepend_known}
 use Rattle.std.proofs.KnownBytes.{Keeps-trans}
@@ -10,8 +10,10 @@ use Rattle.stream_model.specs.Opening.{OpeningKey, HasFront, Begins, FirstAgrees
 use Rattle.stream_model.proofs.AgreeFacts.{AreTexts-leads}
 use Rattle.tink_streaming_segment.specs.declared.segment_traits.SegmentDecrypter.{Ghosts}
 use Rattle.tink_streaming_segment.specs.Opening.{HeadOpensTo, HoldsChunk}
-use Rattle.tink_streaming_io.specs.Trials.{DoesBegin, DoesNotBegin, MayBegin, TrialMeans}
+use Rattle.tink_streaming_io.specs.Trials.{DoesBegin, DoesNotBegin, HasPrefixRoom, IsTrialBy, MayBegin, TrialMeans}
 use Rattle.tink_streaming_io.specs.declared.trying.Begun.{Begun}
+use Rattle.tink_streaming_io.specs.declared.trying.KeyTrial.{KeyTrial}
+use Rattle.tink_streaming_io.specs.declared.trying.KeyTrial.TheVariants.{Begins as BeginsUnder, Differs}
 use Rattle.tink_streaming_io.proofs.FrontFacts.{opened_front, refused_front}
 use Rattle.tink_streaming_segment.proofs.HeadFacts.{fits_or_not}
 
@@ -131,17 +133,15 @@ part_of h header filled xs items e f long =
     sym (drop-take h (filled - h) xs) ∙ ap (λ n. drop h (take n xs)) all ∙ ap (λ x. drop h (take filled x)) f ∙ ap (λ n. drop n (take filled items)) e
 
 -- what the trial of a key answers, by whether its stream begins
-pub trial_means : {D : Type 0} {g : Ghosts D} {Z : Type 0} (k : OpeningKey) (nonce_size : ℕ) (old new : Option (List ℕ)) (filled : ℕ) (begins : Bool) (b : Begun D g) (prefix : Vec ℕ Z) (r : Result (Begun D g) (Vec ℕ Z))
-    → MatchResult r (λ x. (begins ≡ true) × (x ≡ b)) (λ p. (begins ≡ false) × (p ≡ prefix))
-    → (begins ≡ true → DoesBegin k nonce_size old new filled b) → (begins ≡ false → DoesNotBegin k old new prefix)
+pub trial_means : {D : Type 0} {g : Ghosts D} (k : OpeningKey) (nonce_size : ℕ) (old new : Option (List ℕ)) (filled : ℕ) (begins : Bool) (b : Begun D g) (r : KeyTrial D g)
+    → IsTrialBy begins b r
+    → (begins ≡ true → DoesBegin k nonce_size old new filled b) → (begins ≡ false → DoesNotBegin k old new b.opener.prefix)
     → TrialMeans k nonce_size old new filled r
-trial_means k nonce_size old new filled begins b prefix (Ok x) is does fails = subst (DoesBegin k nonce_size old new filled) (sym is.1) (does is.0)
-trial_means {Z = Z} k nonce_size old new filled begins b prefix (Err p) is does fails = subst (λ (q : Vec ℕ Z). DoesNotBegin k old new q) (sym is.1) (fails is.0)
+trial_means k nonce_size old new filled begins b (BeginsUnder x) is does fails = subst (DoesBegin k nonce_size old new filled) (sym is.1) (does is.0)
+trial_means k nonce_size old new filled begins b (Differs p) is does fails = subst (λ q. DoesNotBegin k old new q) (sym is.1) (fails is.0)
 
 -- the memory of a prefix is in the opener or is handed back
-pub prefix_kept : {D : Type 0} {g : Ghosts D} {Z : Type 0} (begins : Bool) (b : Begun D g) (prefix : Vec ℕ Z) (r : Result (Begun D g) (Vec ℕ Z)) (n : ℕ)
-    → vec_capacity b.opener.prefix ≡ vec_capacity prefix → vec_capacity prefix ≡ n
-    → MatchResult r (λ x. (begins ≡ true) × (x ≡ b)) (λ p. (begins ≡ false) × (p ≡ prefix))
-    → MatchResult r (λ x. vec_capacity x.opener.prefix ≡ n) (λ p. vec_capacity p ≡ n)
-prefix_kept begins b prefix (Ok x) n same room is = ap (λ y. vec_capacity y.opener.prefix) is.1 ∙ same ∙ room
-prefix_kept begins b prefix (Err p) n same room is = ap (λ q. vec_capacity q) is.1 ∙ room
+pub prefix_kept : {D : Type 0} {g : Ghosts D} (begins : Bool) (b : Begun D g) (r : KeyTrial D g) (n : ℕ)
+    → vec_capacity b.opener.prefix ≡ n → IsTrialBy begins b r → HasPrefixRoom n r
+prefix_kept begins b (BeginsUnder x) n room is = ap (λ y. vec_capacity y.opener.prefix) is.1 ∙ room
+prefix_kept begins b (Differs p) n room is = ap (λ q. vec_capacity q) is.1 ∙ room

@@ -10,7 +10,6 @@ use Rattle.tink_streaming_io.specs.Readers.{ReaderState}
 use Rattle.tink_streaming_io.specs.Reading as segments
 use Rattle.tink_streaming_io.specs.TextReading as text
 use Rattle.tink_streaming_io.specs.declared.progress.Progress.TheVariants.{Ended}
-use Rattle.tink_streaming_segment.specs.declared.opener.Opener.{Opener}
 use Rattle.tink_streaming_io.specs.declared.reading.SegmentReader.{SegmentReader}
 use Rattle.tink_streaming_io.specs.declared.text_reader.TextReader.{TextReader}
 

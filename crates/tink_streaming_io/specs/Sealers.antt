@@ -5,7 +5,6 @@ use Rattle.tink_streaming_segment.specs.declared.segment_traits.SegmentEncrypter
 pub use Rattle.tink_streaming_segment.specs.Sealers.{segment_map}
 use Rattle.tink_streaming_io.specs.Writers.{WriterState}
 use Rattle.tink_streaming_io.specs.Writing.{WriterMoment}
-use Rattle.tink_streaming_segment.specs.declared.sealer.Sealer.{Sealer}
 use Rattle.tink_streaming_io.specs.declared.writing.SegmentWriter.{SegmentWriter}
 
 module _ {E : Type 0} {g : Ghosts E} where

@@ -1,5 +1,5 @@
 -- What the trial of one key after another answers.
-use Rattle.std.specs.Prelude.{◌≡◌, ◌≤◌, ◌<◌, ◌+◌, ◌-◌, ℕ, List, [], ◌∷◌, All, length, max, Vec, Result, Ok, Err, None, Some, IfSome, vec_len, vec_capacity}
+use Rattle.std.specs.Prelude.{◌≡◌, ◌≤◌, ◌<◌, ◌+◌, ◌-◌, ℕ, List, [], ◌∷◌, All, length, max, Bool, true, false, Vec, None, Some, IfSome, vec_len, vec_capacity}
 use Rattle.std.specs.declared.option.Option.{Option}
 use Rattle.std.specs.Io.KnownBytes.{Keeps}
 use Rattle.stream_model.specs.Opening.{OpeningKey, Begins, HasFront, IsChosen, front_length, header_of}
@@ -10,6 +10,8 @@ use Rattle.tink_streaming_io.specs.Choosing.{IsOpenerOf, Found}
 use Rattle.tink_streaming_io.specs.Openers.{segment_map}
 use Rattle.tink_streaming_segment.specs.declared.kept.Kept.{Kept}
 use Rattle.tink_streaming_io.specs.declared.trying.Begun.{Begun}
+use Rattle.tink_streaming_io.specs.declared.trying.KeyTrial.{KeyTrial}
+use Rattle.tink_streaming_io.specs.declared.trying.KeyTrial.TheVariants.{Begins as BeginsUnder, Differs}
 
 -- the stream does not begin under the key, none of its bytes is lost, and the memory of a prefix is handed back
 pub record DoesNotBegin {Z : Type 0} (k : OpeningKey) (old new : Option (List ℕ)) (prefix : Vec ℕ Z) : Type 0 where
@@ -68,9 +70,19 @@ module _ {D : Type 0} {g : Ghosts D} where
     pub near : b.front + b.opener.first < vec_len kept.buffer
 
   -- what the trial of a key answers where the source did not fail
-  abbrev pub TrialMeans : {Z : Type 0} → OpeningKey → ℕ → Option (List ℕ) → Option (List ℕ) → ℕ → Result (Begun D g) (Vec ℕ Z) → Type 0
-  TrialMeans k nonce_size old new filled (Ok b) = DoesBegin k nonce_size old new filled b
-  TrialMeans k nonce_size old new filled (Err prefix) = DoesNotBegin k old new prefix
+  abbrev pub TrialMeans : OpeningKey → ℕ → Option (List ℕ) → Option (List ℕ) → ℕ → KeyTrial D g → Type 0
+  TrialMeans k nonce_size old new filled (BeginsUnder b) = DoesBegin k nonce_size old new filled b
+  TrialMeans k nonce_size old new filled (Differs prefix) = DoesNotBegin k old new prefix
+
+  -- the trial whose first segment opens, or does not
+  abbrev pub IsTrialBy : Bool → Begun D g → KeyTrial D g → Type 0
+  IsTrialBy begins b (BeginsUnder x) = (begins ≡ true) × (x ≡ b)
+  IsTrialBy begins b (Differs prefix) = (begins ≡ false) × (prefix ≡ b.opener.prefix)
+
+  -- the memory of a nonce prefix, in the opener or handed back, has so many bytes
+  abbrev pub HasPrefixRoom : ℕ → KeyTrial D g → Type 0
+  HasPrefixRoom n (BeginsUnder b) = vec_capacity b.opener.prefix ≡ n
+  HasPrefixRoom n (Differs prefix) = vec_capacity prefix ≡ n
 
   -- what the choice of a key answers where the source did not fail
   abbrev pub ChoiceMeans : {Z : Type 0} → List OpeningKey → Option (List ℕ) → Option (List ℕ) → Kept → Vec ℕ Z → Vec ℕ Z → Option (Begun D g) → Type 0

@@ -24,6 +24,6 @@ pub use text_reader::TextReader;
 pub use tink_streaming_segment::{
     Kept, Opener, Sealer, carry, fill, open_front, open_held, refill,
 };
-pub use trying::{Begun, OpensStreams, front_opener, try_key};
+pub use trying::{Begun, KeyTrial, OpensStreams, front_opener, try_key};
 pub use writer::{Writer, WriterParams};
 pub use writing::{Mode, SegmentWriter};

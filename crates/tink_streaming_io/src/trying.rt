@@ -1,11 +1,11 @@
-ghost use Rattle.std.specs.Prelude.{◌≡◌, ◌≤◌, ◌<◌, ◌+◌, ◌-◌, ℕ, [], length, take, drop, max, Some, None, IfSome, IsNone, IfOk, IfErr, MatchResult, OnErr, false, true, vec_len, vec_capacity};
+ghost use Rattle.std.specs.Prelude.{◌≡◌, ◌≤◌, ◌<◌, ◌+◌, ◌-◌, ℕ, [], length, take, drop, max, Some, None, IfSome, IsNone, IfOk, IfErr, OnErr, vec_len, vec_capacity};
 ghost use Rattle.stream_model.specs.Cut.{numbered};
 ghost use Rattle.stream_model.specs.Opening.{OpeningKey, HasFront, begins_front, front_length, header_of};
 ghost use Rattle.tink_streaming_io.specs.Choosing.{HasSizesOf};
 ghost use Rattle.tink_streaming_segment.specs.Keeping.{kept_rest};
 ghost use Rattle.tink_streaming_io.specs.Openers.{segment_map};
 ghost use Rattle.tink_streaming_io.specs.Rooms.{HasRoomToTry, KeepsRoom};
-ghost use Rattle.tink_streaming_io.specs.Trials.{MayBegin, TrialFailed, TrialMeans};
+ghost use Rattle.tink_streaming_io.specs.Trials.{HasPrefixRoom, IsTrialBy, MayBegin, TrialFailed, TrialMeans};
 
 use tink_io::{Failed, Source};
 use tink_streaming_segment::{Kept, Opener, SegmentDecrypter, open_front, refill};
@@ -59,6 +59,15 @@ pub struct Begun<D: SegmentDecrypter> {
     pub opener: Opener<D>,
     /// The bytes of the output prefix and the header.
     pub front: usize,
+}
+
+/// Whether a stream begins under a key.
+#[derive(Drop)]
+pub enum KeyTrial<D: SegmentDecrypter> {
+    /// It does. Its segments are opened so.
+    Begins(Begun<D>),
+    /// It does not. The memory of the nonce prefix is handed back for the next key.
+    Differs(Vec<u8>),
 }
 
 // How the key's stream under a header is opened, or the memory of its prefix again.
@@ -137,27 +146,24 @@ pub fn front_opener<D: SegmentDecrypter + Drop, T: OpensStreams<D>>(
     opener_under(key, &held[out..end], prefix)
 }
 
-// How a stream is opened that begins in a front of so many bytes, or the memory of its prefix again.
-fn begun_if<D: SegmentDecrypter + Drop>(
+// What the trial of a key found whose first segment opens, or does not.
+fn trial_by<D: SegmentDecrypter + Drop>(
     begins: bool,
     opener: Opener<D>,
     front: usize,
-) -> Result<Begun<D>, Vec<u8>>
-    ensures { MatchResult result
-        (λ b. (begins ≡ true) × (b ≡ record { opener = opener; front = front }))
-        (λ prefix. (begins ≡ false) × (prefix ≡ opener.prefix)) }
+) -> KeyTrial<D>
+    ensures { IsTrialBy begins (record { opener = opener; front = front }) result }
 {
     if begins {
-        Ok(Begun { opener, front })
+        KeyTrial::Begins(Begun { opener, front })
     } else {
-        Err(opener.prefix)
+        KeyTrial::Differs(opener.prefix)
     }
 }
 
-/// How the stream of a source is opened, if it begins in a front of the key and then in the segment of some text.
-/// Else it is the memory of its prefix again, and `opened` has no text. It reads at most to a byte behind the
-/// front. If keys are derived from the header of a front of the key, it reads at most to a byte behind the first
-/// segment.
+/// Whether the stream of a source begins under a key: with its output prefix, its header, and a first segment that
+/// opens. It reads at most to a byte behind the header. If keys are derived from the header of a stream with the
+/// key's output prefix, it reads at most to a byte behind the first segment. Afterwards `opened` holds no text.
 ///
 /// # Errors
 /// Failed where the source failed. What was read is kept.
@@ -168,7 +174,7 @@ pub fn try_key<S: Source, D: SegmentDecrypter + Drop, T: OpensStreams<D>>(
     prefix: Vec<u8>,
     nonce: &mut Vec<u8>,
     opened: &mut Vec<u8>,
-) -> Result<Result<Begun<D>, Vec<u8>>, Failed>
+) -> Result<KeyTrial<D>, Failed>
     requires room { HasRoomToTry (T.opening_key key.now) (T.nonce_of key.now) (vec_len kept.old.buffer)
         (vec_capacity opened.old) (vec_len nonce.old) (vec_capacity prefix) }
     ensures answer { IfOk result (TrialMeans (T.opening_key key.now) (T.nonce_of key.now)
@@ -183,8 +189,7 @@ pub fn try_key<S: Source, D: SegmentDecrypter + Drop, T: OpensStreams<D>>(
     // whatever the answer, no text is left there, not even one that stood there before
     ensures opened { opened.new.items ≡ [] }
     ensures room { KeepsRoom kept.old kept.new nonce.old nonce.new opened.old opened.new }
-    ensures prefix { IfOk result (λ tried. MatchResult tried (λ b. vec_capacity b.opener.prefix ≡ vec_capacity prefix)
-        (λ p. vec_capacity p ≡ vec_capacity prefix)) }
+    ensures prefix { IfOk result (HasPrefixRoom (vec_capacity prefix)) }
     ensures later { S.faults source.old ≤ S.faults source.new }
     ensures same { S.same source.old source.new }
 {
@@ -195,10 +200,10 @@ pub fn try_key<S: Source, D: SegmentDecrypter + Drop, T: OpensStreams<D>>(
     kept.keep(source, front)?;
     let opener = match front_opener(key, &kept.buffer[..kept.filled], front, prefix) {
         Ok(opener) => opener,
-        Err(memory) => return Ok(Err(memory)),
+        Err(memory) => return Ok(KeyTrial::Differs(memory)),
     };
     kept.keep(source, front + opener.first)?;
     let begins = open_front(&opener, 0, &kept.buffer[front..kept.filled], nonce, opened);
     opened.clear();
-    Ok(begun_if(begins, opener, front))
+    Ok(trial_by(begins, opener, front))
 }

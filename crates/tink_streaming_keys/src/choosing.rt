@@ -10,7 +10,7 @@ use crate::key_under::KeyUnder;
 use crate::stream_params::DerivesStreams;
 use tink_io::{Failed, Source};
 use tink_streaming_ciphers::StreamSegment;
-use tink_streaming_io::{Begun, Kept, try_key};
+use tink_streaming_io::{Begun, Kept, KeyTrial, try_key};
 
 /// How the stream of a source is opened: by the first key under which it begins with the associated
 /// data, or none. Then `opened` has no text. Where the stream begins in a front of none of the keys no more is read
@@ -49,8 +49,8 @@ pub fn choose<S: Source, T: DerivesStreams>(
     for key in keys {
         let under = KeyUnder { key, aad };
         match try_key(&under, kept, source, prefix, nonce, opened)? {
-            Ok(begun) => return Ok(Some(begun)),
-            Err(memory) => prefix = memory,
+            KeyTrial::Begins(begun) => return Ok(Some(begun)),
+            KeyTrial::Differs(memory) => prefix = memory,
         }
     }
     Ok(None)

@@ -14,11 +14,15 @@ pub fn put<E: Sink>(sink: &mut E, bytes: &[u8])
 }
 
 /// Writes the name of a file. A control character, and each byte that is no part of UTF-8, is written as `\xNN`: a name
-/// cannot steer a terminal.
+/// cannot steer a terminal. A name of no bytes is written as two quotes.
 pub fn put_escaped<E: Sink>(sink: &mut E, name: &[u8])
     ensures grows { OnlyGrows (E.got sink.old) (E.got sink.new) }
     ensures same { E.same sink.old sink.new }
 {
+    if name.is_empty() {
+        put(sink, b"''");
+        return;
+    }
     let mut at = 0;
     while at < name.len() {
         at += put_next(sink, &name[at..]);

@@ -1,6 +1,7 @@
 //! A system over memory.
 
-ghost use Rattle.std.specs.Prelude.{◌≡◌, [], false, true, None, Some, IfErr, IfOk, OnErr, OnOk, option_map};
+ghost use Rattle.std.specs.Prelude.{◌≡◌, ◌≤◌, [], false, true, None, Some, IfErr, IfOk, OnErr, OnOk, option_map};
+ghost use Rattle.tink_io.specs.Faults.{Rose};
 ghost use Rattle.tink_io.specs.declared.error.Kind.TheVariants.{OutOfMemory};
 ghost use Rattle.tink_system.specs.Memory.{IsLinked, beginning, file_at, state_of, target_of};
 ghost use Rattle.tink_system.specs.States.{IsOfCause, IsSettled, content, replaces_by};
@@ -122,6 +123,17 @@ impl MemSystem {
         Ok(())
     }
 
+    // Counts one refusal more if a draft has failed.
+    fn count(&mut self, failed: u64)
+        ensures state { state_of self.new ≡ state_of self.old }
+        ensures counted { (failed ≡ 0 → ⊥) → Rose self.old.faults self.new.faults }
+        ensures later { self.old.faults ≤ self.new.faults }
+    {
+        if failed > 0 {
+            self.faults = self.faults.saturating_add(1);
+        }
+    }
+
     // The bytes of a file, or standard input.
     fn content<'s>(&'s self, name: Option<&[u8]>) -> Option<&'s [u8]>
         ensures { option_map (λ f. f.now) result ≡ content (state_of self.now) (option_map (λ n. n.now) name.entry) }
@@ -229,6 +241,7 @@ impl System for MemSystem {
         name: &[u8],
         draft: MemPlace,
     ) -> Result<(), Trouble<'static>> {
+        self.count(draft.faults);
         match self.put(alloc, name, draft.shown) {
             Ok(()) => Ok(()),
             Err(_) => Err(Trouble::Refused(b"tink", Kind::OutOfMemory)),
@@ -258,6 +271,10 @@ impl System for MemSystem {
     }
 
     fn is_terminal(&mut self, _end: End) -> bool {
+        false
+    }
+
+    fn leads_to_terminal(&mut self, _name: &[u8]) -> bool {
         false
     }
 
@@ -333,6 +350,7 @@ fn draft_of(
     how: How,
 ) -> Result<MemPlace, TinkError>
     ensures draft { IfOk result (λ p. (p.draft.items ≡ []) × (p.has_draft ≡ true)) }
+    ensures unfailed { IfOk result (λ p. p.faults ≡ 0) }
     ensures name { IfOk result (λ p. (option_map (λ v. v.items) p.shown ≡ option_map (λ f. f.now) shown.entry)
         × (p.replaces ≡ replaces_by how)) }
 {

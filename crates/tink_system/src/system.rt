@@ -118,11 +118,13 @@ pub trait System {
     fn begin<'w>(&mut self, name: &'w [u8], how: How) -> Result<Self::Draft, Trouble<'w>>
         ensures begun { IfOk result (λ d. HasBegun (state self.old) name.now how (Self.Draft.has_draft d)
             (Self.Draft.replaces d) (Self.Draft.got d) (Self.Draft.shown d)) }
+        ensures unfailed { IfOk result (λ d. (state self.old).is_known ≡ true → Self.Draft.faults d ≡ 0) }
         ensures refused { IfErr result (IsUnbegun (state self.old) name.now how (faults self.old) (faults self.new)) }
         ensures state { state self.new ≡ state self.old }
         ensures later { faults self.old ≤ faults self.new };
 
-    /// Ends a draft that was shown or taken away: the file under its name is what the draft shows there.
+    /// Ends a draft that was shown or taken away: the file under its name is what the draft shows there. If the bytes are known
+    /// and the draft has failed, the count of faults rises.
     ///
     /// # Errors
     /// Status 10.
@@ -136,6 +138,8 @@ pub trait System {
         ensures settled { OnOk result (IsSettled (state self.old) (state self.new) name.now (Self.Draft.shown draft)) }
         ensures refused { IfErr result (λ t. trouble_status t ≡ 10) }
         ensures kept { OnErr result (state self.new ≡ state self.old) }
+        ensures counted { (state self.old).is_known ≡ true → (Self.Draft.faults draft ≡ 0 → ⊥)
+            → Rose (faults self.old) (faults self.new) }
         ensures later { faults self.old ≤ faults self.new };
 
     /// The next n random bytes of the system.
@@ -158,9 +162,15 @@ pub trait System {
         ensures still { self.new ≡ self.old }
         ensures known { (state self.old).is_known ≡ true → result ≡ (state self.old).is_stream name.now };
 
-    /// Whether a standard stream is a terminal.
+    /// Whether a standard stream is a terminal. If the bytes are known it is none.
     fn is_terminal(&mut self, end: End) -> bool
-        ensures { self.new ≡ self.old };
+        ensures still { self.new ≡ self.old }
+        ensures known { (state self.old).is_known ≡ true → result ≡ false };
+
+    /// Whether a name leads to a terminal. If the bytes are known it leads to none.
+    fn leads_to_terminal(&mut self, name: &[u8]) -> bool
+        ensures still { self.new ≡ self.old }
+        ensures known { (state self.old).is_known ≡ true → result ≡ false };
 
     /// Why the system refused the last call on a draft that failed, in a few words, as `no space left`.
     fn reason_of_draft(&self, draft: &Self::Draft) -> &'static str;

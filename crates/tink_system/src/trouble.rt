@@ -82,7 +82,20 @@ fn put_refused<E: Sink>(faults: &mut E, file: &[u8], kind: Kind)
 {
     put_head(faults, file);
     put_kind(faults, kind);
-    put_end(faults, advice(kind));
+    put_end(faults, help_for(kind));
+}
+
+// What helps against an error of a file.
+fn help_for(kind: Kind) -> &'static str {
+    match kind {
+        Kind::InvalidKeyset =>
+            "it is empty, or its keyset breaks a rule: of a file the same command says which",
+        Kind::BadJson =>
+            "it is no keyset in JSON: a bracket, a name or a number is not right: take an intact copy",
+        Kind::KeysetTooLong =>
+            "a file of keys has at most 16,777,216 bytes and 65,536 keys: take another",
+        _ => advice(kind),
+    }
 }
 
 // The name of a stream and that of the keys.
@@ -95,7 +108,7 @@ fn put_no_match<E: Sink>(faults: &mut E, file: &[u8], keys: &[u8])
     put_escaped(faults, keys);
     put(
         faults,
-        b" opens this stream: another keyset, other associated data, or a damaged beginning\n",
+        b" opens this stream: give the keys and the --aad that encrypted it; if they are right, it is damaged or was never encrypted\n",
     );
 }
 

@@ -11,8 +11,8 @@ use std::fs::{File, Metadata, OpenFile, OpenOptions, TryLockError};
 use std::os::unix::fs::{MetadataExt, OpenOptionsExt, fchown};
 use tink_io::Kind;
 use tink_system::{How, Trouble};
-use tink_unix_names::leftovers::{Cleared, MOST_RUNS, clear, names_this, sweep};
-use tink_unix_names::names::{Which, draft_name, follow, parts_of, text_of};
+use tink_unix_names::leftovers::{Cleared, MOST_RUNS, clear, names_this, sweep, take_away};
+use tink_unix_names::names::{Which, draft_name, follow, is_name_of_draft, parts_of, text_of};
 use tink_unix_names::notes::note;
 use tink_unix_names::reasons::{NONE, NOT_UTF8, code_of};
 
@@ -81,7 +81,7 @@ pub fn begin<'w>(rt: &HostRuntime, name: &'w [u8], how: How) -> Result<Draft, Tr
             faults: 0,
         }),
         Err(code) => {
-            let _removed = fs::remove_file(rt, path.as_str());
+            take_away(rt, path.as_str());
             match code {
                 EPERM => Err(unwritten(
                     name,
@@ -150,22 +150,32 @@ fn target_of<'w>(rt: &HostRuntime, name: &'w [u8]) -> Result<String, Trouble<'w>
     };
     match parts_of(target.as_str()) {
         (_, "") => return Err(unwritten(name, "no file's name ends so: give the name of a file")),
+        (_, last) if is_name_of_draft(last) => {
+            return Err(unwritten(
+                name,
+                "the names of drafts end so, and the next run that writes its file would remove it: give another name",
+            ));
+        }
         _ => {}
     }
-    // The system itself may refuse to follow a link, as one of another user in a folder that all may write into.
     if target.as_str() != text {
-        match fs::metadata(rt, text) {
-            Ok(_) => {}
-            Err(e) => match code_of(e) {
-                ENOENT => {}
-                EACCES | ELOOP => {
-                    return Err(unwritten(name, "the system does not follow this link"));
-                }
-                code => return Err(unwritable(name, code)),
-            },
-        }
+        require_followed(rt, name, text)?;
     }
     Ok(target)
+}
+
+// The system itself may refuse to follow a link, as one of another user in a folder that all may write into.
+fn require_followed<'w>(rt: &HostRuntime, name: &'w [u8], text: &str) -> Result<(), Trouble<'w>>
+    ensures { IfErr result (IsOfStatus 12) }
+{
+    match fs::metadata(rt, text) {
+        Ok(_) => Ok(()),
+        Err(e) => match code_of(e) {
+            ENOENT => Ok(()),
+            EACCES | ELOOP => Err(unwritten(name, "the system does not follow this link")),
+            code => Err(unwritable(name, code)),
+        },
+    }
 }
 
 // What is under the path: nothing, or a regular file that may be written.

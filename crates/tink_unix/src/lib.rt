@@ -8,6 +8,7 @@ mod object;
 mod output;
 mod publishing;
 mod refusals;
+mod terminals;
 mod unix;
 
 pub use draft::Draft;

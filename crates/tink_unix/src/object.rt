@@ -46,18 +46,7 @@ impl Object {
             Ok(text) => text,
             Err(code) => return Err(unreadable(name, code)),
         };
-        // A pipe is not opened: that would wait for its writer.
-        match fs::metadata(&rt, text) {
-            Ok(found) if is_output(&rt, &found) => return Err(unread(name, IS_OUTPUT)),
-            Ok(found) if found.is_file() => {}
-            Ok(_) => {
-                return Err(unread(
-                    name,
-                    "it is no regular file, and a range is read of one alone",
-                ));
-            }
-            Err(e) => return Err(unreadable(name, code_of(e))),
-        }
+        require_regular(&rt, name, text)?;
         let file = match File::open(&rt, text) {
             Ok(file) => file,
             Err(e) => return Err(unreadable(name, code_of(e))),
@@ -80,6 +69,21 @@ impl Object {
     /// Clears the line on which the progress is shown.
     pub(crate) fn end(&self) {
         self.meter.end(&self.rt);
+    }
+}
+
+// A pipe is not opened: that would wait for its writer.
+fn require_regular<'w>(rt: &HostRuntime, name: &'w [u8], text: &str) -> Result<(), Trouble<'w>>
+    ensures { IfErr result (IsOfStatus 11) }
+{
+    match fs::metadata(rt, text) {
+        Ok(found) if is_output(rt, &found) => Err(unread(name, IS_OUTPUT)),
+        Ok(found) if found.is_file() => Ok(()),
+        Ok(_) => Err(unread(
+            name,
+            "it is no regular file, and a range is read of one alone",
+        )),
+        Err(e) => Err(unreadable(name, code_of(e))),
     }
 }
 

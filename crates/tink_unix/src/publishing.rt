@@ -7,7 +7,7 @@ use std::fs;
 use std::fs::{File, OpenFile, OpenOptions, Permissions};
 use std::os::unix::fs::{MetadataExt, OpenOptionsExt, PermissionsExt};
 use tink_io::{Failed, Gathered, Place, Sink};
-use tink_unix_names::leftovers::{is_name_of, names_this};
+use tink_unix_names::leftovers::{is_name_of, names_this, take_away};
 use tink_unix_names::names::folder_of;
 use tink_unix_names::notes::note;
 use tink_unix_names::reasons::{DRAFT_GONE, code_of, reason_of_errno};
@@ -73,7 +73,7 @@ impl Place for Draft {
 
     fn discard(&mut self) {
         if names_this(&self.rt, self.path.as_str(), &self.file) {
-            let _removed = fs::remove_file(&self.rt, self.path.as_str());
+            take_away(&self.rt, self.path.as_str());
         }
         self.is_drafted = false;
     }
@@ -173,7 +173,7 @@ fn renamed(rt: &HostRuntime, from: &str, to: &str) -> Result<(), i32> {
 fn appear(rt: &HostRuntime, path: &str, target: &str) -> Result<(), i32> {
     match fs::hard_link(rt, path, target) {
         Ok(()) => {
-            let _removed = fs::remove_file(rt, path);
+            take_away(rt, path);
             Ok(())
         }
         Err(e) => match code_of(e) {

@@ -4,13 +4,14 @@ ghost use Rattle.std.specs.Prelude.{◌≡◌, ◌≤◌, None, IfOk, IfErr, len
 ghost use Rattle.tink_unix.specs.OfStatus.{IsOfReading, IsOfStatus};
 ghost use Rattle.tink_unix.specs.Unknown.{unknown_state};
 
-use crate::apart::{FileId, id_at, id_of, is_draft_of, is_draft_read, is_input, is_same};
+use crate::apart::{id_at, id_of_input, is_draft_of, is_draft_read, is_input};
 use crate::draft;
 use crate::draft::Draft;
 use crate::input::Input;
 use crate::object::Object;
 use crate::output::{Stream, Way, Written};
 use crate::refusals::{unreadable, unwritable, unwritten};
+use crate::terminals::{leads_to_terminal, may_show};
 use std::alloc::Global;
 use std::fs;
 use std::fs::{OpenFile, OpenOptions};
@@ -18,6 +19,7 @@ use std::io::IsTerminal;
 use std::random::RandomSource;
 use tink_io::{Draws, Kind, Source};
 use tink_system::{End, How, System, Trouble};
+use tink_unix_names::file_id::FileId;
 use tink_unix_names::names::{folder_of, follow, parts_of, text_of};
 use tink_unix_names::reasons::{code_of, reason_of_errno};
 use tink_unix_names::standard::{Standard, standard_of};
@@ -25,15 +27,19 @@ use tink_unix_names::standard::{Standard, standard_of};
 // This many bytes are read at once.
 const PART: usize = 8_192;
 
+const ENOENT: i32 = 2;
+
 /// The real system. No clause knows its bytes.
 #[derive(Drop)]
 pub struct Unix {
     rt: HostRuntime,
     faults: u64,
-    // Whether standard input was read as a file of keys.
+    // whether standard input was read as a file of keys
     has_keys: bool,
-    // The last file that was read whole.
+    // the last file that was read whole
     read: Option<FileId>,
+    // the last file that was opened to be read
+    opened: Option<FileId>,
 }
 
 impl Unix {
@@ -46,7 +52,20 @@ impl Unix {
             faults: 0,
             has_keys: false,
             read: None,
+            opened: None,
         }
+    }
+
+    // Whether the regular file behind a descriptor is read by this command.
+    fn reads_behind(&self, name: &[u8]) -> bool {
+        let file = id_at(&self.rt, name);
+        file.is_some() && (file == self.opened || self.has_keys && is_input(&self.rt, name))
+    }
+
+    // Whether keys were read from a file that has the name of a draft of the file of a name.
+    fn reads_draft_of(&self, name: &[u8]) -> bool {
+        is_draft_read(&self.rt, name, self.read)
+            || self.has_keys && is_draft_read(&self.rt, name, id_of_input(&self.rt))
     }
 }
 
@@ -79,6 +98,10 @@ impl System for Unix {
     }
 
     fn open<'w>(&mut self, name: Option<&'w [u8]>, is_quiet: bool) -> Result<Input, Trouble<'w>> {
+        self.opened = match name {
+            Some(name) => id_at(&self.rt, name),
+            None => id_of_input(&self.rt),
+        };
         Input::open(self.rt, name, may_show(self.rt, is_quiet))
     }
 
@@ -88,11 +111,19 @@ impl System for Unix {
         total: u64,
         is_quiet: bool,
     ) -> Result<Object, Trouble<'w>> {
+        self.opened = id_at(&self.rt, name);
         Object::open(self.rt, name, total, may_show(self.rt, is_quiet))
     }
 
     fn open_stream<'w>(&mut self, name: &'w [u8]) -> Result<Stream, Trouble<'w>> {
-        let answer = stream_of(self.rt, name);
+        let answer = if self.reads_behind(name) {
+            Err(unwritten(
+                name,
+                "this command reads the file to which it leads: give another name",
+            ))
+        } else {
+            stream_of(self.rt, name)
+        };
         if answer.is_err() {
             self.faults = self.faults.saturating_add(1);
         }
@@ -106,7 +137,7 @@ impl System for Unix {
                 "the keys are read from this file, by standard input: give another name",
             ));
         }
-        if is_draft_read(&self.rt, name, self.read) {
+        if self.reads_draft_of(name) {
             return Err(unwritten(
                 name,
                 "the file that is read has the name of its draft: rename that file, or give another name",
@@ -149,6 +180,10 @@ impl System for Unix {
         }
     }
 
+    fn leads_to_terminal(&mut self, name: &[u8]) -> bool {
+        leads_to_terminal(&self.rt, name)
+    }
+
     fn reason_of_draft(&self, draft: &Draft) -> &'static str {
         reason_of_errno(draft.code)
     }
@@ -178,11 +213,6 @@ impl System for Unix {
     ghost input_sure = { λ _ _ _ known _. known refl };
 
     ghost object_sure = { λ _ _ _ known _. known refl };
-}
-
-// Whether progress is shown.
-fn may_show(rt: HostRuntime, is_quiet: bool) -> bool {
-    !is_quiet && rt.stderr().is_terminal()
 }
 
 // The whole of a file or of standard input.
@@ -268,7 +298,10 @@ fn stream_of<'w>(rt: HostRuntime, name: &'w [u8]) -> Result<Stream, Trouble<'w>>
             ));
         }
         Ok(_) => {}
-        Err(e) => return Err(unwritable(name, code_of(e))),
+        Err(e) => match code_of(e) {
+            ENOENT => return Err(unwritten(name, "no such descriptor is open")),
+            code => return Err(unwritable(name, code)),
+        },
     }
     match OpenOptions::new().write(true).open(&rt, text) {
         Ok(file) => Ok(Written::new(Way::File(file))),
@@ -298,8 +331,8 @@ fn are_one(rt: &HostRuntime, name: &[u8], other: &[u8]) -> bool {
         _ => return name == other,
     };
     match (fs::metadata(rt, name), fs::metadata(rt, other)) {
-        (Ok(one), Ok(two)) => is_same(&one, &two) || is_draft_of(rt, name, id_of(&two)),
-        (Err(_), Ok(two)) => is_draft_of(rt, name, id_of(&two)),
+        (Ok(one), Ok(two)) if FileId::of(&one) == FileId::of(&two) => true,
+        (_, Ok(two)) => is_draft_of(rt, name, FileId::of(&two)),
         (Err(_), Err(_)) => lead_to_one(rt, name, other),
         _ => false,
     }
@@ -320,7 +353,7 @@ fn lead_to_one(rt: &HostRuntime, name: &str, other: &str) -> bool {
         fs::metadata(rt, folder_of(one.as_str())),
         fs::metadata(rt, folder_of(two.as_str())),
     ) {
-        (Ok(one), Ok(two)) => is_same(&one, &two),
+        (Ok(one), Ok(two)) => FileId::of(&one) == FileId::of(&two),
         _ => false,
     }
 }

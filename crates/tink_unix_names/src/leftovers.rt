@@ -4,9 +4,10 @@
 //! process. So a draft that can be locked is of no run any more, and is taken away. It is never emptied. After a run
 //! that was cut off between two steps it may be a second name of the file that was shown.
 
+use crate::file_id::FileId;
 use crate::names::{Which, draft_name};
 use crate::notes::note;
-use crate::reasons::code_of;
+use crate::reasons::{code_of, reason_of_errno};
 use std::fs;
 use std::fs::{File, OpenFile, OpenOptions, TryLockError};
 use std::os::unix::fs::MetadataExt;
@@ -91,6 +92,25 @@ fn remove(rt: &HostRuntime, path: &str, file: &File) -> Cleared {
     }
 }
 
+/// Removes a draft of this run. If the system refuses, a line says that it is left.
+pub fn take_away(rt: &HostRuntime, path: &str) {
+    match fs::remove_file(rt, path) {
+        Ok(()) => {}
+        Err(e) => match code_of(e) {
+            ENOENT => {}
+            code => note(
+                rt,
+                path,
+                &[
+                    "this draft is left, since it cannot be removed (",
+                    reason_of_errno(code),
+                    "): remove it",
+                ],
+            ),
+        },
+    }
+}
+
 /// Whether a path is the name of this very file. If the system does not answer, it is not.
 pub fn names_this(rt: &HostRuntime, path: &str, file: &File) -> bool {
     match is_name_of(rt, path, file) {
@@ -112,7 +132,7 @@ pub fn is_name_of(rt: &HostRuntime, path: &str, file: &File) -> Result<bool, i32
         },
     };
     match file.metadata() {
-        Ok(open) => Ok(named.ino() == open.ino() && named.dev() == open.dev()),
+        Ok(open) => Ok(FileId::of(&named) == FileId::of(&open)),
         Err(e) => Err(code_of(e)),
     }
 }

@@ -27,9 +27,9 @@ impl Meter {
         }
     }
 
-    /// How many bytes there are, if it is known.
-    pub fn total(&self) -> Option<u64> {
-        self.total
+    /// How many bytes were read.
+    pub fn done(&self) -> u64 {
+        self.done
     }
 
     /// Counts bytes that were read.

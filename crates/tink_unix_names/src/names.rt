@@ -23,6 +23,20 @@ const MOST_BYTES: usize = 128;
 // How many bytes of a longer name its draft keeps.
 const KEPT_BYTES: usize = 96;
 
+// How the names of drafts end.
+const ENDS: [&str; 10] = [
+    ".tink.part",
+    ".tink-1.part",
+    ".tink-2.part",
+    ".tink-3.part",
+    ".tink-4.part",
+    ".tink-5.part",
+    ".tink-6.part",
+    ".tink-7.part",
+    ".tink-8.part",
+    ".tink-9.part",
+];
+
 /// Which draft of a file.
 #[derive(Clone, Copy)]
 pub enum Which {
@@ -133,6 +147,16 @@ pub fn draft_name(rt: &HostRuntime, target: &str, which: Which) -> Result<String
         }
     }
     Ok(path)
+}
+
+/// Whether a path ends as the name of a draft does. A run that writes the file of this draft would take it for a leftover.
+pub fn is_name_of_draft(path: &str) -> bool {
+    for end in ENDS {
+        if path.ends_with(end) {
+            return true;
+        }
+    }
+    false
 }
 
 // The first bytes of a long name, without a part of a character.

@@ -76,7 +76,8 @@ fn devices(code: i32) -> &'static str {
     match code {
         4 => "interrupted too often",
         5 => "input/output error",
-        6 | 19 => "no such device",
+        6 => "it is a socket, or no such device",
+        19 => "no such device",
         9 => "it is not open",
         11 | 16 => "it is busy",
         12 => "out of memory",

@@ -1,6 +1,6 @@
 //! AES-SIV (RFC 5297).
 
-ghost use Rattle.std.specs.Prelude.{◌≡◌, ◌+◌, ◌↔◌, false, length, IsTrue, MatchOption};
+ghost use Rattle.std.specs.Prelude.{◌≡◌, ◌+◌, ◌↔◌, ⊤, false, length, IsTrue, MatchOption};
 ghost use Rattle.standards.specs.AesKeys.{aes};
 ghost use Rattle.standards.specs.Siv.{s2v};
 ghost use Rattle.tink_io.specs.Told.{Answers, Tells};
@@ -87,24 +87,27 @@ impl SivCiphers {
 /// AES-SIV (RFC 5297) under a key of 32 or 64 bytes, which contracts see as the key. The first half is the key of CMAC,
 /// the second that of the counter mode. What it makes of a text is V, of 16 bytes, and the ciphertext.
 ///
-/// Equal texts with equal associated data give equal bytes, and who sees two ciphertexts sees that. Each call makes the
-/// schedules of the halves, which have 4 KiB.
+/// Equal texts with equal associated data give equal bytes, and who sees two ciphertexts sees that. A prepared one keeps
+/// the schedules of the halves, which have 4 KiB. Any other makes them in each call.
 #[derive(Drop)]
 pub struct AesSiv {
     // The key, and zeros behind it.
     bytes: [u8; AES_SIV_KEY_SIZE],
     size: usize,
+    kept: Option<Box<SivCiphers>>,
 }
 
 impl Model for AesSiv {
-    ghost use Rattle.std.specs.Prelude.{List, ℕ, IsTrue, take};
+    ghost use Rattle.std.specs.Prelude.{List, ℕ, IsTrue, take, ⊤, MatchOption};
     ghost use Rattle.tink_daead.specs.AesSiv.{is_siv_key_size};
+    ghost use Rattle.tink_daead.specs.SivCiphers.{AreKeyed};
 
     ghost Value = { List ℕ };
 
     ghost view = { λ a. take a.size a.bytes };
 
-    ghost invariant = { λ a. IsTrue (is_siv_key_size a.size) };
+    ghost invariant = { λ a. IsTrue (is_siv_key_size a.size)
+        × MatchOption a.kept ⊤ (λ ciphers. AreKeyed ciphers.value (take a.size a.bytes)) };
 }
 
 impl AesSiv {
@@ -132,6 +135,7 @@ impl AesSiv {
         AesSiv {
             bytes,
             size: key.len(),
+            kept: None,
         }
     }
 
@@ -145,13 +149,34 @@ impl AesSiv {
             None => unreachable!(),
         }
     }
+
+    // They on the heap, if there is memory.
+    fn kept_ciphers(&self, alloc: Global) -> Option<Box<SivCiphers>>
+        ensures { MatchOption result ⊤ (λ ciphers. AreKeyed ciphers.value self.now) }
+    {
+        match Box::new(alloc, self.ciphers()) {
+            Ok(ciphers) => Some(ciphers),
+            Err(_) => None,
+        }
+    }
 }
 
 impl CloneIn for AesSiv {
+    // The copy holds its key alone.
     fn try_clone(&self, _alloc: Global) -> Result<Self, TinkError> {
         Ok(AesSiv {
             bytes: self.bytes,
             size: self.size,
+            kept: None,
+        })
+    }
+
+    // Where there is no memory for the schedules, the copy works without them.
+    fn try_prepared(&self, alloc: Global) -> Result<Self, TinkError> {
+        Ok(AesSiv {
+            bytes: self.bytes,
+            size: self.size,
+            kept: self.kept_ciphers(alloc),
         })
     }
 }
@@ -173,8 +198,12 @@ impl DeterministicAead for AesSiv {
         additional_data: &[u8],
     ) -> Result<Bytes, TinkError> {
         let mut out = vec![in alloc; 0u8; SIV_SIZE + plaintext.len()]?;
-        self.ciphers()
-            .seal_into(additional_data, plaintext, &mut out);
+        match &self.kept {
+            Some(ciphers) => ciphers.seal_into(additional_data, plaintext, &mut out),
+            None => self
+                .ciphers()
+                .seal_into(additional_data, plaintext, &mut out),
+        }
         Ok(Bytes::from_vec(out))
     }
 
@@ -189,7 +218,10 @@ impl DeterministicAead for AesSiv {
         ciphertext: &[u8],
         additional_data: &[u8],
     ) -> Result<Bytes, TinkError> {
-        self.ciphers().decrypt(alloc, ciphertext, additional_data)
+        match &self.kept {
+            Some(ciphers) => ciphers.decrypt(alloc, ciphertext, additional_data),
+            None => self.ciphers().decrypt(alloc, ciphertext, additional_data),
+        }
     }
 
     ghost encrypts_told = { λ _ _ _. tt };

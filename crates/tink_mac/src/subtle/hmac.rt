@@ -91,6 +91,13 @@ impl CloneIn for Hmac {
             tag_size: self.tag_size,
         })
     }
+
+    fn try_prepared(&self, alloc: Global) -> Result<Self, TinkError> {
+        Ok(Hmac {
+            prf: self.prf.try_prepared(alloc)?,
+            tag_size: self.tag_size,
+        })
+    }
 }
 
 impl Mac for Hmac {

@@ -16,6 +16,6 @@ pub returns-in-Ok-clause-refused : goal.returns-in-Ok-clause-refused
 returns-in-Ok-clause-refused g c =
     of_new c.prefix_of.result (prefix_named c.args.line.now.prefix) c.format_of.result (format_named c.args.line.now.format) c.in-Some-Some.template.now
     c.in-Some-Some.output.now c.in-Ok.draws (g.Y.System.state c.args.system.now) (g.Y.System.state c.draws.new.self) (g.Y.System.faults c.args.system.now)
-    (g.Y.System.faults c.draws.new.self) (g.Y.System.faults c.save_new.new.system) c.args.line.now.first c.args.line.now.output c.save_new.result
+    (g.Y.System.faults c.draws.new.self) (g.Y.System.faults c.save_new.new.system) _ _ c.args.line.now.first c.args.line.now.output c.save_new.result
     (sym c.in-Some-Some.ensures) (sym c.in-Some-Some.ensures') c.prefix_of.ensures c.format_of.ensures c.in-Ok.ensures.drawn c.in-Ok.ensures.later
     (c.save_new.ensures.refused (new_file c.in-Some-Some.template.now c.prefix_of.result c.format_of.result c.in-Ok.draws) c.new_file-made.ensures.answer)

@@ -17,4 +17,5 @@ returns-in-Ok-clause-kept g c =
 
 pub returns-in-Ok-clause-refused : goal.returns-in-Ok-clause-refused
 returns-in-Ok-clause-refused g c = λ given answers.
-    of_save given c.save_answer-answer.result _ _ _ _ _ _ _ _ c.saved.result (c.save_answer-answer.ensures.saves given answers) c.saved.ensures.ok c.saved.ensures.refused
+    of_save given c.save_answer-answer.result _ _ _ _ _ _ _ _ _ c.saved.result (c.save_answer-answer.ensures.saves given answers) c.saved.ensures.ok c.saved.ensures.refused
+    c.end_draft.ensures.counted

@@ -1,6 +1,6 @@
 use Rattle.std.proofs.Common.{refl}
 use Rattle.tink_cli_jobs.proofs.LoadingLemmas.{loaded_by}
-use Rattle.tink_cli_streams.proofs.CheckingLemmas.{not_twice, opened_line, unloaded, without_keys}
+use Rattle.tink_cli_streams.proofs.CheckingLemmas.{checked_line, not_twice, opened_line, unloaded, without_keys}
 use Rattle.tink_cli_streams.proofs.checking.check.Goals as goal
 
 pub returns-in_default-clause-succeeds : goal.returns-in_default-clause-succeeds
@@ -19,3 +19,9 @@ returns-in-Ok-clause-succeeds g c =
     opened_line c.args.line.now c.in-Some.job s (g.Y.System.state c.keyset_of.new.system) c.as_slice.result.now _ _ _ c.check_under.result c.in-Some.ensures
     c.in-Ok.ensures.state c.in-Ok.ensures.later
     (loaded_by s s c.in-Some.job.keys c.in-Ok.keyset c.as_slice.result.now refl c.as_slice.ensures c.in-Ok.ensures.loaded) c.check_under.ensures.succeeds
+
+pub returns-in-Ok-clause-done : goal.returns-in-Ok-clause-done
+returns-in-Ok-clause-done g c =
+    let s = g.Y.System.state c.args.system.now in
+    checked_line c.args.line.now c.in-Some.job s (g.Y.System.state c.keyset_of.new.system) c.as_slice.result.now c.check_under.result c.in-Some.ensures c.in-Ok.ensures.state
+    (loaded_by s s c.in-Some.job.keys c.in-Ok.keyset c.as_slice.result.now refl c.as_slice.ensures c.in-Ok.ensures.loaded) c.in_default-spare_input.ensures.once c.check_under.ensures.done

@@ -1,6 +1,7 @@
 use Rattle.std.proofs.Common.{◌≡◌}
 use Rattle.std.specs.Prelude.{Some}
 use Rattle.tink_cli_jobs.proofs.OutputLemmas.{drafted}
+use Rattle.tink_cli_streams.proofs.CauseLemmas.{unopened_ends}
 use Rattle.tink_cli_streams.specs.Performing.{Makes}
 use Rattle.tink_cli_streams.specs.Trimming.{unread}
 use Rattle.tink_cli_streams.proofs.performing.put_to_file.Goals as goal
@@ -11,3 +12,7 @@ returns-in-Ok-clause-done g c =
     (λ X. unread c.args.input.now.trims c.args.input.now.held (g.Y.Input.Source.left c.args.input.now.source) ≡ Some X) c.args.job.now.keeps_output c.how_of.result (g.Y.System.state c.args.system.now)
     (g.Y.System.state c.begin.new.self) (g.Y.System.state c.put_to_draft.new.system) c.args.output.now _ _ _ _ c.put_to_draft.result
     c.how_of.ensures c.in-Ok.ensures.state c.in-Ok.ensures.begun c.put_to_draft.ensures.others c.put_to_draft.ensures.fresh c.put_to_draft.ensures.done
+
+pub returns-in-Err-clause-cause : goal.returns-in-Err-clause-cause
+returns-in-Err-clause-cause g c =
+    unopened_ends c.args.task c.args.keyset.now c.args.job.now.aad.now c.args.draws.now _ _ c.in-Err.trouble c.in-Err.ensures.refused

@@ -48,7 +48,7 @@ returns-clause-answer g c =
       size_is = c.in-Ok.ensures.sizes.0;
       part_is = part_of front (front_length k) filled c.deref-2.result.now c.keep-2.new.self.buffer.items front_is c.deref-2.ensures.value (omega (arith, front_is, c.in-Ok.ensures.front.long, length-take c.keep.new.self.filled c.deref.result.now, c.in_ok-keep-2.ensures.more));
     } in
-    trial_means k (g.T.OpensStreams.nonce_of c.args.key.now) _ _ filled c.open_front-begins.result (record { opener = o; front = front }) o.prefix c.begun_if.result c.begun_if.ensures
+    trial_means k (g.T.OpensStreams.nonce_of c.args.key.now) _ _ filled c.open_front-begins.result (record { opener = o; front = front }) c.trial_by.result c.trial_by.ensures
     (λ does.
     let first = begun k _ _ _ _ _ _ seg o.first _ tried (c.open_front-begins.ensures.ok does) in
     record {
@@ -202,7 +202,7 @@ returns-clause-room g c =
 
 pub returns-clause-prefix : goal.returns-clause-prefix
 returns-clause-prefix g c =
-    prefix_kept c.open_front-begins.result (record { opener = c.in-Ok.opener; front = length c.output_prefix.result.now + c.header_length-h.result }) c.in-Ok.opener.prefix c.begun_if.result _ refl c.in-Ok.ensures.prefix_room c.begun_if.ensures
+    prefix_kept c.open_front-begins.result (record { opener = c.in-Ok.opener; front = length c.output_prefix.result.now + c.header_length-h.result }) c.trial_by.result _ c.in-Ok.ensures.prefix_room c.trial_by.ensures
 
 pub returns-clause-later : goal.returns-clause-later
 returns-clause-later g c = omega (arith, c.in_ok-keep.ensures.later, c.in_ok-keep-2.ensures.later)

@@ -12,18 +12,18 @@ use Rattle.tink_streaming_io.specs.Openers.{segment_map}
 use Rattle.tink_streaming_io.proofs.ChoosingSteps.{ChosenFrom, all_left, key_split, pass_over, take_key, both_told, keeps_none, keeps_tried, read_kept, reads_fronts, told_before}
 use Rattle.tink_streaming_keys.proofs.choosing.choose.Goals as goal
 
-pub returns-in-Ok-clause-answer : goal.returns-in-Ok-clause-answer
-returns-in-Ok-clause-answer g c =
+pub returns-in-Begins-clause-answer : goal.returns-in-Begins-clause-answer
+returns-in-Begins-clause-answer g c =
     let of : g.row.T.Denot → OpeningKey = λ k. opening_key c.args.aad.now (g.T.DerivesStreams.key_of k) in
     let keys = c.args.keys.now in
-    let b = c.in-Ok.begun in
+    let b = c.in-Begins.begun in
     let o = b.opener in
     let seg : ℕ → Bool → List ℕ → List ℕ = segment_map o in
     let told : Option (List ℕ) = kept_rest g.S.Source.left c.args.kept.now c.args.source.now in
     let key : g.row.T.Denot = c.key-item.result in
     let inv = c.loop-key.invariant in
     let called = c.in_ok-begun.ensures in
-    let tried = rw c.in-Ok.is at called.answer in
+    let tried = rw c.in-Begins.is at called.answer in
     let keyed : g.row.T.Denot → StreamKey = g.T.DerivesStreams.key_of in
     let so : (P : g.row.T.Denot → Type 0) → All P keys → P key = λ P h. subst P (sym c.key-item.is) (All-get_or P keys c.loop-key.key-index key (omega arith) h) in
     let sealed : length (keyed key).out + (keyed key).segment < vec_len c.args.kept.now.buffer = so (λ k. length (keyed k).out + (keyed k).segment < vec_len c.args.kept.now.buffer) c.requires.room.sealed_room in
@@ -43,11 +43,11 @@ returns-in-Ok-clause-answer g c =
       text = omega (arith, tried.size, text, called.room.buffers.capacity, inv.capacity);
     }
 
-pub returns-in-Ok-clause-read : goal.returns-in-Ok-clause-read
-returns-in-Ok-clause-read g c =
+pub returns-in-Begins-clause-read : goal.returns-in-Begins-clause-read
+returns-in-Begins-clause-read g c =
     let inv = c.loop-key.invariant in
     let called = c.in_ok-begun.ensures in
-    let tried = rw c.in-Ok.is at called.answer in
+    let tried = rw c.in-Begins.is at called.answer in
     read_kept g.S.Source.left c.args.kept.now c.try_key.new.kept c.args.source.now c.try_key.new.source (Keeps-trans _ _ _ inv.rest tried.rest) (omega (arith, called.room.more, inv.more)) (called.room.len ∙ inv.len)
 
 pub returns-in_err-begun-clause-read : goal.returns-in_err-begun-clause-read
@@ -96,7 +96,7 @@ loop-key-preserved g c =
     let key : g.row.T.Denot = c.key-item.result in
     let inv = c.loop-key.invariant in
     let called = c.in_ok-begun.ensures in
-    let tried = rw c.in-Err.is at called.answer in
+    let tried = rw c.in-Differs.is at called.answer in
     let split = key_split keys c.loop-key.key-index key (omega arith) c.key-item.is in
     record {
       len = called.room.len ∙ inv.len;
@@ -105,7 +105,7 @@ loop-key-preserved g c =
       kept_capacity = called.room.kept_capacity ∙ inv.kept_capacity;
       nonce_capacity = called.room.buffers.nonce_capacity ∙ inv.nonce_capacity;
       more = omega (arith, called.room.more, inv.more);
-      prefix_capacity = (rw c.in-Err.is at called.prefix) ∙ inv.prefix_capacity;
+      prefix_capacity = (rw c.in-Differs.is at called.prefix) ∙ inv.prefix_capacity;
       rest = Keeps-trans _ _ _ inv.rest tried.rest;
       chosen = both_told told (λ X. Begins (of key) X → ⊥) (ChosenFrom of keys c.loop-key.key-index) (ChosenFrom of keys (c.loop-key.key-index + 1))
           (λ X other h. pass_over of keys c.loop-key.key-index key X split other h)
@@ -136,11 +136,11 @@ try_key-requires g c =
       };
     }
 
-pub returns-in-Ok-clause-failed : goal.returns-in-Ok-clause-failed
-returns-in-Ok-clause-failed g c = tt
+pub returns-in-Begins-clause-failed : goal.returns-in-Begins-clause-failed
+returns-in-Begins-clause-failed g c = tt
 
-pub returns-in-Ok-clause-room : goal.returns-in-Ok-clause-room
-returns-in-Ok-clause-room g c =
+pub returns-in-Begins-clause-room : goal.returns-in-Begins-clause-room
+returns-in-Begins-clause-room g c =
     let inv = c.loop-key.invariant in
     let called = c.in_ok-begun.ensures.room in
     record {
@@ -150,14 +150,14 @@ returns-in-Ok-clause-room g c =
       more = omega (arith, called.more, inv.more);
     }
 
-pub returns-in-Ok-clause-prefix : goal.returns-in-Ok-clause-prefix
-returns-in-Ok-clause-prefix g c = (rw c.in-Ok.is at c.in_ok-begun.ensures.prefix) ∙ c.loop-key.invariant.prefix_capacity
+pub returns-in-Begins-clause-prefix : goal.returns-in-Begins-clause-prefix
+returns-in-Begins-clause-prefix g c = (rw c.in-Begins.is at c.in_ok-begun.ensures.prefix) ∙ c.loop-key.invariant.prefix_capacity
 
-pub returns-in-Ok-clause-later : goal.returns-in-Ok-clause-later
-returns-in-Ok-clause-later g c = omega (arith, c.in_ok-begun.ensures.later, c.loop-key.invariant.later)
+pub returns-in-Begins-clause-later : goal.returns-in-Begins-clause-later
+returns-in-Begins-clause-later g c = omega (arith, c.in_ok-begun.ensures.later, c.loop-key.invariant.later)
 
-pub returns-in-Ok-clause-same : goal.returns-in-Ok-clause-same
-returns-in-Ok-clause-same g c = g.met.S.Source.same_trans _ _ _ c.loop-key.invariant.same c.in_ok-begun.ensures.same
+pub returns-in-Begins-clause-same : goal.returns-in-Begins-clause-same
+returns-in-Begins-clause-same g c = g.met.S.Source.same_trans _ _ _ c.loop-key.invariant.same c.in_ok-begun.ensures.same
 
 pub returns-in_err-begun-clause-answer : goal.returns-in_err-begun-clause-answer
 returns-in_err-begun-clause-answer g c = let p = err_from_is_err_and c.from_residual.result c.from_residual.ensures.1 in rw p.1 tt
@@ -204,8 +204,8 @@ returns-clause-later g c = c.loop-key.invariant.later
 pub returns-clause-same : goal.returns-clause-same
 returns-clause-same g c = c.loop-key.invariant.same
 
-pub returns-in-Ok-clause-further : goal.returns-in-Ok-clause-further
-returns-in-Ok-clause-further g c =
+pub returns-in-Begins-clause-further : goal.returns-in-Begins-clause-further
+returns-in-Begins-clause-further g c =
     let of : g.row.T.Denot → OpeningKey = λ k. opening_key c.args.aad.now (g.T.DerivesStreams.key_of k) in
     let keys = c.args.keys.now in
     let old = c.args.kept.now in
@@ -214,12 +214,12 @@ returns-in-Ok-clause-further g c =
     let key : g.row.T.Denot = c.key-item.result in
     let inv = c.loop-key.invariant in
     let called = c.in_ok-begun.ensures in
-    let tried = rw c.in-Ok.is at called.answer in
+    let tried = rw c.in-Begins.is at called.answer in
     reads_fronts g.S.Source.left (map of keys) old new c.args.source.now c.try_key.new.source (Keeps-trans _ _ _ inv.rest tried.rest) (omega (arith, called.room.more, inv.more))
     (keeps_tried of keys c.loop-key.key-index key old.filled c.loop-key.kept.filled new.filled told _ (omega arith) c.key-item.is inv.rest inv.further called.further)
 
-pub returns-in-Ok-clause-opened : goal.returns-in-Ok-clause-opened
-returns-in-Ok-clause-opened g c = c.in_ok-begun.ensures.opened
+pub returns-in-Begins-clause-opened : goal.returns-in-Begins-clause-opened
+returns-in-Begins-clause-opened g c = c.in_ok-begun.ensures.opened
 
 pub returns-in_err-begun-clause-further : goal.returns-in_err-begun-clause-further
 returns-in_err-begun-clause-further g c =

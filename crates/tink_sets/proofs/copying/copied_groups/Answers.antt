@@ -1,6 +1,6 @@
 use Rattle.std.proofs.Common.{inl, inr}
 use Rattle.tink_set_groups.proofs.Converted.{copied, never_refused}
-use Rattle.tink_sets.proofs.copying.clone_groups.Goals as goal
+use Rattle.tink_sets.proofs.copying.copied_groups.Goals as goal
 
 pub returns-in-Ok-clause-ok : goal.returns-in-Ok-clause-ok
 returns-in-Ok-clause-ok g c = copied c.args.groups.now c.in-Ok.copy c.in-Ok.ensures.ok

@@ -1,6 +1,6 @@
 use Rattle.std.proofs.Common.{inl, inr, ⊎_elim}
 use Rattle.tink_sets.proofs.SortFacts.{refused_wrong}
-use Rattle.tink_sets.proofs.typed_set.typed_groups.Goals as goal
+use Rattle.tink_sets.proofs.typed_set.copied_groups.Goals as goal
 
 pub returns-in-Ok : goal.returns-in-Ok
 returns-in-Ok g c = record { ok = c.in-Ok.ensures.ok; cause = tt }

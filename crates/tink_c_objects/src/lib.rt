@@ -1,0 +1,16 @@
+//! Objects that C holds: the primitives of a keyset, which are loaded once and asked often.
+#![tactic(auto)]
+
+mod asking;
+mod asking_macs;
+mod filling;
+mod loose;
+mod object;
+mod owner;
+mod slot;
+
+pub use asking::{aead_decrypt, aead_encrypt, daead_decrypt, daead_encrypt, prf_compute};
+pub use asking_macs::{mac_compute, mac_verify, token_sign, token_verify};
+pub use filling::{fill_aead, fill_daead, fill_mac, fill_prfs};
+pub use object::Object;
+pub use owner::Owner;
