@@ -113,15 +113,14 @@ COMMANDS = [
 ]
 
 
-def reset(output, before):
-    """The files as they were before the first command."""
-    for name in drafts():
-        os.remove(name)
+def reset(before):
+    """The files as they were before the first command, and no other file."""
+    for name in all_of():
+        if name not in before:
+            os.remove(name)
     for name, data in before.items():
         write(name, data)
     os.chmod("out", 0o640)
-    if output not in before and output and os.path.exists(output):
-        os.remove(output)
 
 
 def shown():
@@ -130,7 +129,7 @@ def shown():
 
 
 def one_fault(words, output, is_whole, before, call, number, error, counts):
-    reset(output, before)
+    reset(before)
     done = faulty(words, f"{call}:error={error}:when={number}")
     what = f"{words[0]}{' --no-clobber' if '--no-clobber' in words else ''}: {call} {number} fails by {error}"
     after = shown()
@@ -159,7 +158,7 @@ def one_fault(words, output, is_whole, before, call, number, error, counts):
 
 
 def one_signal(words, output, is_whole, before, call, number):
-    reset(output, before)
+    reset(before)
     done = faulty(words, f"{call}:signal=SIGTERM:when={number}")
     what = f"{words[0]}{' --no-clobber' if '--no-clobber' in words else ''}: SIGTERM at {call} {number}"
     after = shown()
@@ -182,7 +181,7 @@ def signals_at_calls():
         os.symlink("out", "link")
         before = all_of()
         for words, output, is_whole in COMMANDS:
-            reset(output, before)
+            reset(before)
             for call, (front, all_calls) in calls_of(words).items():
                 for number in range(front + 1, all_calls + 1):
                     one_signal(words, output, is_whole, before, call, number)
@@ -197,10 +196,7 @@ def faults():
         os.symlink("out", "link")
         before = all_of()
         for words, output, is_whole in COMMANDS:
-            if os.path.exists("fresh"):
-                os.remove("fresh")
-            for name, data in before.items():
-                write(name, data)
+            reset(before)
             for call, (front, all_calls) in calls_of(words).items():
                 for number in range(front + 1, all_calls + 1):
                     for error in ERRORS[call]:
