@@ -312,7 +312,7 @@ def memory():
         keyset = json.loads(read("keys.json"))
         for count in (1_000_000, 30_000_000):
             write("empty.bin", b"\x08\x01" + b"\x12\x00" * count)
-            write("empty.json", b'{"primaryKeyId": 1, "key": [' + b",".join([b"{}"] * count) + b"]}")
+            write("empty.json", b'{"primaryKeyId": 1, "key": [' + b"{}" + b",{}" * (count - 1) + b"]}")
             for name in ("empty.bin", "empty.json"):
                 for words in (("keys", name), ("encrypt", "-k", name, "text"), ("rotate", name, "AES128_GCM_HKDF_4KB"), ("convert", name, "-o", "never", "--format", "binary"), ("wrap", "-k", name, "-o", "made", "keys.json")):
                     status, most = peak(words)

@@ -19,15 +19,27 @@ def chosen(suite: unittest.TestSuite, names: list[str]):
             yield test
 
 
+class Result(unittest.TextTestResult):
+    """Counts what passed: a class that cannot be set up is an error and no test that ran."""
+
+    passed = 0
+
+    def addSuccess(self, test: unittest.TestCase) -> None:
+        super().addSuccess(test)
+        self.passed += 1
+
+
 def main() -> int:
-    loaded = unittest.TestLoader().loadTestsFromNames(MODULES)
-    result = unittest.TextTestRunner(stream=sys.stdout, verbosity=2).run(
-        unittest.TestSuite(chosen(loaded, sys.argv[2:]))
-    )
+    tests = list(chosen(unittest.TestLoader().loadTestsFromNames(MODULES), sys.argv[2:]))
+    if not tests:
+        print(f"no test has a name with {' or '.join(sys.argv[2:])}")
+        return 2
+    runner = unittest.TextTestRunner(stream=sys.stdout, verbosity=2, resultclass=Result)
+    result = runner.run(unittest.TestSuite(tests))
     for test, why in result.skipped:
         print(f"skipped: {test.id()}: {why}")
     bad = len(result.failures) + len(result.errors)
-    print(f"{result.testsRun - bad - len(result.skipped)} passed, {bad} failed")
+    print(f"{result.passed} passed, {bad} failed")
     return int(bad > 0)
 
 
