@@ -127,6 +127,22 @@ class Parts(Yard):
             with self.assertRaisesRegex(TaskError, "changed while it was read"):
                 parts.digest(task, plan)
 
+    def test_a_stream_whose_name_another_file_gets_while_it_is_hashed_is_refused(self):
+        """The open stream is still the right one, and the file under the name is another with the same bytes."""
+        task, real = self.sealed(self.random.randbytes(20000)), parts.places.digest
+        plan = parts.probe(self.worker, task)
+        write(self.at("copy"), read(self.at("sealed")))
+        os.utime(self.at("copy"), ns=(task.mtime, task.mtime))
+
+        def replaced(fd: int, place: str) -> str:
+            made = real(fd, place)
+            os.replace(self.at("copy"), self.at("sealed"))
+            return made
+
+        with patch.object(parts.places, "digest", replaced):
+            with self.assertRaisesRegex(TaskError, "changed while it was read"):
+                parts.digest(task, plan)
+
     def test_another_stream_that_goes_while_it_is_hashed_is_refused(self):
         """The right one is back under the name before the end."""
         task, real = self.sealed(self.random.randbytes(20000)), parts.places.digest

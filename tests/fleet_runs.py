@@ -24,6 +24,8 @@ from fleet_lib import (
     wait_for,
     write,
 )
+from tink_fleet.program import Keys as KeyFile
+from tink_fleet.program import list_keys
 
 
 class ParallelYard(Yard):
@@ -144,6 +146,19 @@ class Operations(Targets, ParallelYard):
         self.expect_streams(moved, texts, "sealed", keys="new")
         self.assertTrue(all(it["adopted"] for it in self.record(moved).values()))
         self.assertEqual(before, {name: read(self.at("sealed", f"{name}.tink")) for name in texts})
+
+    def test_a_rewrap_under_a_later_primary_key_is_done_again(self):
+        """Sources, targets and record are the same, and only the primary key is another."""
+        texts = self.make_texts(3, 3000)
+        self.encrypt_all(texts)
+        moved = self.manifest("move.toml", operation="rewrap", source="sealed", target="moved")
+        self.run_all(moved, says="3 done, 0 failed")
+        tink("rotate", self.at("keys"), self.template)
+        self.run_all(moved, says="3 done, 0 failed")
+        primary = list_keys(TINK, KeyFile(self.at("keys"))).primary
+        self.assertEqual({it["key"] for it in self.record(moved).values()}, {primary})
+        self.expect_streams(moved, texts, "moved")
+        self.run_all(moved, says="0 done, 0 failed, 3 were done before")
 
     def test_a_status_counts_what_is_left(self):
         texts = self.make_texts(4, 3000)
