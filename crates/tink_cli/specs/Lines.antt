@@ -15,6 +15,7 @@ use Rattle.tink_system.specs.States.{SystemState}
 use Rattle.tink_cli_jobs.specs.Outputs.{KeepsFiles}
 use Rattle.tink_cli_ranges.specs.Ranges.{IsRanged}
 use Rattle.tink_cli_streams.specs.Breaking.{IsUnmade}
+use Rattle.tink_cli_streams.specs.Causes.{HasMakeCause, HasMoveCause}
 use Rattle.tink_cli_streams.specs.Streams.{IsChecked, IsMade, IsMoved}
 use Rattle.tink_cli_jobs.specs.Loading.{named}
 use Rattle.tink_cli_keys.specs.KeyFiles.{AreListed, IsConverted, IsEdited, IsGrown, IsNew}
@@ -112,6 +113,11 @@ HasCause actions.Disable line old before now out out_after status = HasEditCause
 HasCause actions.Destroy line old before now out out_after status = HasEditCause actions.Destroy line old before now status
 HasCause actions.Delete line old before now out out_after status = HasEditCause actions.Delete line old before now status
 HasCause actions.Convert line old before now out out_after status = HasConvertCause line old before now out out_after status
+HasCause actions.Encrypt line old before now out out_after status = HasMakeCause actions.Encrypt line old before now status
+HasCause actions.Decrypt line old before now out out_after status = HasMakeCause actions.Decrypt line old before now status
+HasCause actions.Sign line old before now out out_after status = HasMakeCause actions.Sign line old before now status
+HasCause actions.Verify line old before now out out_after status = HasMakeCause actions.Verify line old before now status
+HasCause actions.Rewrap line old before now out out_after status = HasMoveCause line old before now status
 HasCause actions.Wrap line old before now out out_after status = HasWrapCause line old before now out out_after status
 HasCause actions.Unwrap line old before now out out_after status = HasUnwrapCause line old before now out out_after status
 HasCause actions.Templates line old before now out out_after status = (status ≡ 10) ⊎ IsUnshown out out_after status
