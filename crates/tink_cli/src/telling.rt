@@ -2,7 +2,9 @@
 
 ghost use Rattle.std.specs.Prelude.{◌≡◌};
 
-use tink_cli_words::{Action, Why, Wrong, command_names, help_text, option_names, similar, usage};
+use tink_cli_words::{
+    Action, OptionName, Why, Wrong, command_names, help_text, option_names, similar, usage,
+};
 use tink_io::Sink;
 use tink_program::program::{Outcome, tell as tell_outcome};
 use tink_system::lines::{put, put_escaped};
@@ -149,12 +151,22 @@ fn put_value_why<E: Sink>(faults: &mut E, why: &Why<'_>)
                 b" has no value ",
             );
             put_escaped(faults, word.bytes());
+            put(faults, values_of(*option));
         }
         Why::Needs(option, other) => {
             put_three(faults, b"the option ", option.name().as_bytes(), b" needs ");
             put(faults, other.name().as_bytes());
         }
         _ => {}
+    }
+}
+
+// The values that an option has.
+fn values_of(option: OptionName) -> &'static [u8] {
+    match option {
+        OptionName::Format => b": its values are json and binary",
+        OptionName::Prefix => b": its values are tink, raw, legacy and crunchy",
+        _ => b"",
     }
 }
 
