@@ -45,7 +45,7 @@ use Rattle.tink_streaming_keys.specs.StreamKinds.{key_of}
 use Rattle.tink_daead.specs.KeyTypes.{is_accepted}
 use Rattle.tink.specs.Rows.{widened}
 use Rattle.tink.specs.Managers.{AeadBuilt, DaeadBuilt, MacBuilt, PrfBuilt, StreamBuilt, as_built_aead, as_built_daead, as_built_mac, as_built_prf, as_built_stream, row_of}
-use Rattle.tink.specs.Registered.{aead_managers, daead_managers, mac_managers, prf_managers, streaming_managers, with_everything}
+use Rattle.tink.specs.Registered.{aead_managers, daead_managers, mac_managers, prf_managers, streaming_managers, managers_alone, with_everything}
 use Rattle.tink.specs.declared.managers.Managers.{Managers}
 use Rattle.tink_registry.specs.Listed.{Registered}
 use Rattle.loading_model.specs.Loading.{LoadingRow}
@@ -234,6 +234,6 @@ unfolding rows
 managers_sound = rows_sound
 
 -- the rows of the registry of all managers
-pub rows_of_all : (r : Registered Managers) → r ≡ with_everything → rows_of r.managers ≡ rows
+pub rows_of_all : (r : Registered Managers) → r ≡ managers_alone → rows_of r.managers ≡ rows
 unfolding rows
 rows_of_all r e = ap (λ (x : Registered Managers). rows_of x.managers) e

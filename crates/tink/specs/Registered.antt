@@ -43,3 +43,7 @@ with_streaming_aeads = with_all with_aeads streaming_managers streaming_template
 -- all eleven managers, in the order of registration, and all templates, in the order of their names
 abbrev pub with_everything : Registered Managers
 with_everything = with_all with_streaming_aeads daead_managers daead_templates
+
+-- all eleven managers, and no template
+abbrev pub managers_alone : Registered Managers
+managers_alone = record { managers = with_everything.managers; templates = [] }

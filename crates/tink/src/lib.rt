@@ -15,7 +15,7 @@ pub mod streaming_aead;
 
 pub use laws::{law_aeads_are_sound, law_macs_are_sound};
 pub use managers::{Managers, TinkKinds};
-pub use registering::registry;
+pub use registering::{key_managers, registry};
 pub use tink_io::{
     Cause, Draws, Kind, Lent, MemSink, MemSource, Sink, Source, StdSink, StdSource, SureSink,
     SureSource, TinkError,

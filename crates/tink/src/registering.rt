@@ -2,12 +2,45 @@
 
 ghost use Rattle.std.specs.Prelude.{◌≡◌, IfErr, IfOk, OnOk};
 ghost use Rattle.tink_io.specs.declared.error.Kind.TheVariants.{OutOfMemory};
-ghost use Rattle.tink.specs.Registered.{nothing, with_aeads, with_everything, with_macs, with_prfs, with_streaming_aeads};
+ghost use Rattle.tink.specs.Registered.{managers_alone, nothing, with_aeads, with_everything, with_macs, with_prfs};
+ghost use Rattle.tink.specs.Registered.{with_streaming_aeads};
 
 use crate::Managers;
 use std::alloc::Global;
 use tink_io::TinkError;
 use tink_registry::Registry;
+
+// All managers, in the order of registration.
+const MANAGERS: [Managers; 11] = [
+    Managers::HmacPrf,
+    Managers::HkdfPrf,
+    Managers::AesCmacPrf,
+    Managers::Hmac,
+    Managers::AesCmac,
+    Managers::AesCtrHmacAead,
+    Managers::AesGcm,
+    Managers::AesGcmSiv,
+    Managers::AesCtrHmac,
+    Managers::AesGcmHkdf,
+    Managers::AesSiv,
+];
+
+/// A registry of all eleven managers and of no template. It builds keys as `registry` does, and takes less time to
+/// make.
+///
+/// # Errors
+/// `OutOfMemory` alone.
+pub fn key_managers(alloc: Global) -> Result<Registry<Managers>, TinkError>
+    ensures ok { IfOk result (λ r. r ≡ managers_alone) }
+    ensures cause { IfErr result (λ e. e.kind ≡ OutOfMemory) }
+{
+    let managers = Vec::from_slice(alloc, &MANAGERS)?;
+    let mut registry = Registry::new(alloc);
+    match registry.register_all(alloc, managers, Vec::new(alloc)) {
+        Ok(()) => Ok(registry),
+        Err(e) => Err(e),
+    }
+}
 
 /// A registry of all eleven managers and of the 26 templates that have a name.
 ///

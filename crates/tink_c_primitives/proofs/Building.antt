@@ -9,7 +9,7 @@ use Rattle.tink_set_builder.specs.Built.{GivesSet}
 use Rattle.tink_keysets.specs.Encrypted.{chained}
 use Rattle.tink_registry.specs.Listed.{Registered}
 use Rattle.tink.specs.Managers.{row_of, Built}
-use Rattle.tink.specs.Registered.{with_everything}
+use Rattle.tink.specs.Registered.{managers_alone, with_everything}
 use Rattle.tink.specs.declared.managers.Managers.{Managers}
 use Rattle.tink_c_primitives.specs.Primitives.{GivesKeys}
 
@@ -43,7 +43,7 @@ abbrev pub builds : Managers → List ℕ → Result Built Kind
 builds m value = (row_of m).built value
 
 pub built_by : {E W K : Type 0} (entries : List Managers → Result (List E) Kind) (make : List E → K) (holds : List E → W → Type 0) (Is : K → W → Type 0)
-    → ((es : List E) (w : W) → holds es w → Is (make es) w) → (r : Registered Managers) (result : Result W TinkError) → r ≡ with_everything
+    → ((es : List E) (w : W) → holds es w → Is (make es) w) → (r : Registered Managers) (result : Result W TinkError) → r ≡ managers_alone
     → GivesSet holds result (entries r.managers) → GivesKeys Is result (made_of make (entries with_everything.managers))
 built_by entries make holds Is same r result is gives =
     built make holds Is same (entries with_everything.managers) result (subst (λ (x : Registered Managers). GivesSet holds result (entries x.managers)) is gives)

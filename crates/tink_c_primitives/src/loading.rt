@@ -6,7 +6,7 @@ ghost use Rattle.tink_tokens.specs.Tokens.{macs_in};
 ghost use Rattle.tink_c_primitives.specs.Primitives.{ArePrfs, GivesKeys, IsAead, IsDaead, aeads_in, aeads_of, daeads_in, daeads_of, macs_of_file, prfs_in, prfs_of_file, valid_in_file};
 
 use std::alloc::Global;
-use tink::{Managers, registry};
+use tink::{Managers, key_managers};
 use tink_aead::{AeadKind, WrappedAead};
 use tink_c_bytes::copied;
 use tink_daead::WrappedDeterministicAead;
@@ -69,7 +69,7 @@ pub fn prfs_in_file(alloc: Global, file: &[u8]) -> Result<Set<PrfKind>, TinkErro
 fn build_aeads(alloc: Global, handle: &Handle) -> Result<WrappedAead<AeadKind>, TinkError>
     ensures { GivesKeys IsAead result (aeads_in handle.now) }
 {
-    let registry = registry(alloc)?;
+    let registry = key_managers(alloc)?;
     tink_aead::new::<Managers, AeadKind>(alloc, handle, &registry)
 }
 
@@ -80,7 +80,7 @@ fn build_daeads(
 ) -> Result<WrappedDeterministicAead<AesSiv>, TinkError>
     ensures { GivesKeys IsDaead result (daeads_in handle.now) }
 {
-    let registry = registry(alloc)?;
+    let registry = key_managers(alloc)?;
     tink_daead::new::<Managers, AesSiv>(alloc, handle, &registry)
 }
 
@@ -88,7 +88,7 @@ fn build_daeads(
 fn build_macs(alloc: Global, handle: &Handle) -> Result<WrappedMac<MacKind>, TinkError>
     ensures { GivesKeys AreLoadedMacs result (macs_in handle.now) }
 {
-    let registry = registry(alloc)?;
+    let registry = key_managers(alloc)?;
     tink_mac::new::<Managers, MacKind>(alloc, handle, &registry)
 }
 
@@ -96,7 +96,7 @@ fn build_macs(alloc: Global, handle: &Handle) -> Result<WrappedMac<MacKind>, Tin
 fn build_prfs(alloc: Global, handle: &Handle) -> Result<Set<PrfKind>, TinkError>
     ensures { GivesKeys ArePrfs result (prfs_in handle.now) }
 {
-    let registry = registry(alloc)?;
+    let registry = key_managers(alloc)?;
     Set::<PrfKind>::new::<Managers>(alloc, handle, &registry)
 }
 

@@ -20,7 +20,7 @@ use Rattle.tink_aead.specs.declared.aead_kind.AeadKind.{AeadKind}
 use Rattle.tink_aead.specs.declared.factory.WrappedAead.{WrappedAead}
 use Rattle.tink_sets.specs.Groups.{group_of}
 use Rattle.tink.specs.Managers.{row_of, Built}
-use Rattle.tink.specs.Registered.{with_everything}
+use Rattle.tink.specs.Registered.{managers_alone, with_everything}
 use Rattle.tink.specs.declared.managers.Managers.{Managers}
 use Rattle.tink_cli_files.specs.Masters.{GivesMaster, IsMaster, MasterKeys, master_decrypts, master_in, master_keys, master_of, valid_in_file}
 use Rattle.tink_cli_files.specs.Wrapping.{unspent, unspent_by, unspent_file, unwrapped_keys, wrapped_in, wrapped_keys, wraps}
@@ -48,7 +48,7 @@ abbrev pub builds : Managers → List ℕ → Result Built Kind
 builds m value = (row_of m).built value
 
 -- what the managers of the registry give
-pub built_master : (ks : Keyset) (r : Registered Managers) (result : Result (WrappedAead AeadKind) TinkError) → r ≡ with_everything
+pub built_master : (ks : Keyset) (r : Registered Managers) (result : Result (WrappedAead AeadKind) TinkError) → r ≡ managers_alone
     → GivesSet (λ es w. IsAeadOf kind_encrypts kind_decrypts ks.primary_key_id es w.ps.primary w.ps.entries) result (aead_entries url supports builds r.managers ks)
     → GivesMaster result (master_in ks)
 built_master ks r result same gives =

@@ -26,13 +26,13 @@ ids_suffice keys (suc n) d enough =
     let long : nat_le 4 (length d) ≡ true = grind (arith, nat_tests) in
     rw long (one_id (is_taken keys (drawn_id d)) (fresh_id keys n (drop 4 d)) (drawn_id d) (drop 4 d) (ids_suffice keys n (drop 4 d) (omega (arith, length-drop {A = ℕ}))))
 
-by_id : (ks : Keyset) (kt : KeyTemplate) (d : KeyData) (r : Result ℕ Kind) (left : List ℕ) (kind : Kind) → IsFreeOrNone r
-    → keyset_or (added_by_id ks kt true d r left).answer (added_by_id ks kt true d r left).keyset ≡ Err kind → kind ≡ NoFreshId
-by_id ks kt d (Ok id) left kind free is = absurd (cc)
-by_id ks kt d (Err by) left kind free is = let same : by ≡ kind = cc in sym same ∙ free
+by_id : (p : Bool) (ks : Keyset) (kt : KeyTemplate) (d : KeyData) (r : Result ℕ Kind) (left : List ℕ) (kind : Kind) → IsFreeOrNone r
+    → keyset_or (added_by_id ks kt p d r left).answer (added_by_id ks kt p d r left).keyset ≡ Err kind → kind ≡ NoFreshId
+by_id p ks kt d (Ok id) left kind free is = absurd (cc)
+by_id p ks kt d (Err by) left kind free is = let same : by ≡ kind = cc in sym same ∙ free
 
 -- adding with data that was made, where the draws that are left suffice for 128 ids
-pub refused_by_ids : (ks : Keyset) (kt : KeyTemplate) (d : KeyData) (left : List ℕ) (kind : Kind) → 512 ≤ length left
-    → (keyset_reply (added ks kt true (Ok d, left))).0 ≡ Err kind → kind ≡ NoFreshId
-refused_by_ids ks kt d left kind enough is =
-    by_id ks kt d (fresh_id ks.key 128 left).0 (fresh_id ks.key 128 left).1 kind (ids_suffice ks.key 128 left (omega arith)) is
+pub refused_by_ids : (p : Bool) (ks : Keyset) (kt : KeyTemplate) (d : KeyData) (left : List ℕ) (kind : Kind) → 512 ≤ length left
+    → (keyset_reply (added ks kt p (Ok d, left))).0 ≡ Err kind → kind ≡ NoFreshId
+refused_by_ids p ks kt d left kind enough is =
+    by_id p ks kt d (fresh_id ks.key 128 left).0 (fresh_id ks.key 128 left).1 kind (ids_suffice ks.key 128 left (omega arith)) is

@@ -62,7 +62,7 @@ is_grown p r ks new kt draws id is told same =
 -- ---- a keyset that is made is valid
 
 -- data is made where the template's prefix is known
-known_by : (kt : KeyTemplate) (draws : List ℕ) (o : Option Managers) (d : KeyData)
+pub known_by : (kt : KeyTemplate) (draws : List ℕ) (o : Option Managers) (d : KeyData)
     → (adding.new_data (λ m. (row_of m).made_data) kt draws o).0 ≡ Ok d → is_known_prefix kt.output_prefix_type ≡ true
 known_by kt draws None d is = absurd (cc)
 known_by kt draws (Some m) d is = by_test (is_known_prefix kt.output_prefix_type) refl is
@@ -92,14 +92,14 @@ beside_valid p ks kt draws other valid has new is held =
 
 -- ---- why a keyset is not made
 
-unmade_by : (kt : KeyTemplate) (ks : Keyset) (draws : List ℕ) (kind : Kind) → MakesKeys kt → 576 ≤ length draws → rotated kt draws ks ≡ Err kind → kind ≡ NoFreshId
-unmade_by kt ks draws kind makes enough is =
+pub unmade_by : (p : Bool) (kt : KeyTemplate) (ks : Keyset) (draws : List ℕ) (kind : Kind) → MakesKeys kt → 576 ≤ length draws → grown p kt draws ks ≡ Err kind → kind ≡ NoFreshId
+unmade_by p kt ks draws kind makes enough is =
     let made = makes draws (omega arith) in
-    refused_by_ids ks kt made.0 made.1 kind (omega (arith, made.3)) (rw made.2 at is)
+    refused_by_ids p ks kt made.0 made.1 kind (omega (arith, made.3)) (rw made.2 at is)
 
 unmade_from : (name : List ℕ) (kt : KeyTemplate) (start : Result Keyset Kind) (draws : List ℕ) (kind : Kind) → MakesKeys kt → 576 ≤ length draws
     → chained (rotated kt draws) start ≡ Err kind → IsNotRotated name start kind
-unmade_from name kt (Ok ks) draws kind makes enough is = inr (inr (unmade_by kt ks draws kind makes enough is))
+unmade_from name kt (Ok ks) draws kind makes enough is = inr (inr (unmade_by true kt ks draws kind makes enough is))
 unmade_from name kt (Err by) draws kind makes enough is = inr (inl is)
 
 unmade_where : (name : List ℕ) (o : Option KeyTemplate) (start : Result Keyset Kind) (draws : List ℕ) (kind : Kind) → template_named name ≡ o → 576 ≤ length draws

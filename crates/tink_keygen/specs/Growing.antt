@@ -1,9 +1,10 @@
 -- New keys beside the primary one, new keys with another output prefix, and rotations to keys of the same primitive.
-use Rattle.std.specs.Prelude.{◌&&◌, not, ℕ, List, Bool, true, false, Option, Some, None, Result, Ok, Err, codes, bytes_eq, if◌then◌else◌}
+use Rattle.std.specs.Prelude.{◌≡◌, ◌⊎◌, ◌&&◌, not, ℕ, List, Bool, true, false, Option, Some, None, Result, Ok, Err, codes, bytes_eq, if◌then◌else◌}
 use Rattle.std.specs.List.{list_any}
 use Rattle.tink_io.specs.declared.error.Kind.{Kind}
-use Rattle.tink_io.specs.declared.error.Kind.TheVariants.{NoPrimary, UnknownTemplate, WrongPrimitive}
+use Rattle.tink_io.specs.declared.error.Kind.TheVariants.{NoPrimary, UnknownPrefix, UnknownTemplate, WrongPrimitive}
 use Rattle.tink_proto.specs.declared.enums.OutputPrefixType.{OutputPrefixType}
+use Rattle.tink_proto.specs.declared.enums.OutputPrefixType.TheVariants as prefixes
 use Rattle.tink_proto.specs.declared.messages.keys.Key.{Key}
 use Rattle.tink_proto.specs.declared.messages.keys.KeyData.{KeyData}
 use Rattle.tink_proto.specs.declared.messages.keys.KeyTemplate.{KeyTemplate}
@@ -14,7 +15,7 @@ use Rattle.keyset_model.specs.Validity.{has_a_primary}
 use Rattle.tink_keysets.specs.Encrypted.{chained}
 use Rattle.tink_keysets.specs.Managed.{no_keys}
 use Rattle.tink_keygen.specs.NamedTemplates.{template_named}
-use Rattle.tink_keygen.specs.Rotating.{grown, left_after, left_grown, rotated}
+use Rattle.tink_keygen.specs.Rotating.{grown, left_after, left_grown, rotated, IsNotRotated}
 use Rattle.tink_keygen.specs.declared.growing.Sort.{Sort}
 use Rattle.tink_keygen.specs.declared.growing.Sort.TheVariants.{Aead, DeterministicAead, Mac, Prf, StreamingAead}
 
@@ -118,3 +119,16 @@ left_prefixed_where prefix (Some kt) draws = left_after (prefixed prefix kt) dra
 
 abbrev pub left_prefixed_by : Option OutputPrefixType → List ℕ → List ℕ → List ℕ
 left_prefixed_by prefix name draws = left_prefixed_where prefix (template_named name) draws
+
+-- ---- why a keyset is not made where draws suffice
+
+abbrev pub IsNotAdded : List ℕ → Result Keyset Kind → Kind → Type 0
+IsNotAdded name start kind = IsNotRotated name start kind ⊎ ((kind ≡ NoPrimary) × ((ks : Keyset) × (start ≡ Ok ks) × (has_a_primary ks ≡ false)))
+
+abbrev pub IsNotAlike : List ℕ → Result Keyset Kind → Kind → Type 0
+IsNotAlike name start kind =
+    IsNotRotated name start kind
+    ⊎ ((kind ≡ WrongPrimitive) × ((ks : Keyset) × (kt : KeyTemplate) × (start ≡ Ok ks) × (template_named name ≡ Some kt) × (is_alike ks kt ≡ false)))
+
+abbrev pub IsNotPrefixed : Option OutputPrefixType → List ℕ → Kind → Type 0
+IsNotPrefixed prefix name kind = IsNotRotated name (Ok no_keys) kind ⊎ ((kind ≡ UnknownPrefix) × (prefix ≡ Some prefixes.UnknownPrefix))

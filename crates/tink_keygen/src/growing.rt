@@ -1,11 +1,14 @@
 //! Keys that are added for later, new keys with another output prefix, and rotations to keys of the same primitive.
 
 ghost use Rattle.std.specs.List.{list_any};
-ghost use Rattle.std.specs.Prelude.{◌≡◌, IfOk, Ok};
+ghost use Rattle.std.specs.Prelude.{◌≡◌, ◌⊎◌, ◌≤◌, IfErr, IfOk, Ok, length};
 ghost use Rattle.keyset_model.specs.Keys.{is_enabled, is_enabled_with};
 ghost use Rattle.keyset_model.specs.Validity.{IsValid, has_a_primary};
 ghost use Rattle.tink_io.specs.Told.{Answers};
-ghost use Rattle.tink_keygen.specs.Growing.{are_one, grown_beside, grown_beside_by, is_alike, is_unlike, left_alike, left_alike_by, left_beside, left_beside_by, left_prefixed_by, prefixed, prefixed_by, rotated_alike, rotated_alike_by, sort_of};
+ghost use Rattle.tink_io.specs.declared.error.Kind.TheVariants.{OutOfMemory};
+ghost use Rattle.tink_keygen.specs.Growing.{IsNotAdded, IsNotAlike, IsNotPrefixed, are_one, grown_beside, grown_beside_by};
+ghost use Rattle.tink_keygen.specs.Growing.{is_alike, is_unlike, left_alike, left_alike_by, left_beside, left_beside_by};
+ghost use Rattle.tink_keygen.specs.Growing.{left_prefixed_by, prefixed, prefixed_by, rotated_alike, rotated_alike_by, sort_of};
 ghost use Rattle.tink.specs.Registered.{with_everything};
 ghost use Rattle.tink_keysets.specs.Through.{LeavesDraws};
 ghost use Rattle.tink_keysets.specs.Valid.{valid_keyset};
@@ -22,9 +25,25 @@ use tink_registry::Registry;
 /// and not the primary one: it decrypts, and encrypts once it is promoted. The random bytes are taken as `rotate` takes them.
 ///
 /// # Errors
-/// Those of `rotate`; after `InvalidKeyset` `NoPrimary` exactly if no enabled key is the primary one. A valid keyset without
-/// one has public keys alone, and with a new key it would not be valid.
+/// Those of `rotate`; after `InvalidKeyset` `NoPrimary` exactly if no enabled key is the primary one. A valid keyset
+/// without one has public keys alone, and with a new key it would not be valid. 576 random bytes are enough.
 pub fn add(
+    alloc: Global,
+    keyset: &[u8],
+    template: &str,
+    draws: &mut Draws,
+) -> Result<Keyset, TinkError>
+    ensures answer { Answers result (grown_beside_by template.now (valid_keyset keyset.now) draws.old) }
+    ensures rest { LeavesDraws result (left_beside_by template.now (valid_keyset keyset.now) draws.old) draws.old draws.new }
+    ensures valid { IfOk result IsValid }
+    ensures cause { 576 ≤ length draws.old
+        → IfErr result (λ e. (e.kind ≡ OutOfMemory) ⊎ IsNotAdded template.now (valid_keyset keyset.now) e.kind) }
+{
+    grow_beside(alloc, keyset, template, draws)
+}
+
+// The same, whose cause follows from its answer.
+fn grow_beside(
     alloc: Global,
     keyset: &[u8],
     template: &str,
@@ -89,8 +108,8 @@ fn is_enabled_with(id: u32, key: &Key) -> bool
 /// `rotate`, if no enabled key of the keyset is of another primitive than the template's keys.
 ///
 /// # Errors
-/// Those of `rotate`; after `InvalidKeyset` `WrongPrimitive` exactly if an enabled key is of another primitive: a keyset of two
-/// primitives loads as neither.
+/// Those of `rotate`; after `InvalidKeyset` `WrongPrimitive` exactly if an enabled key is of another primitive: a
+/// keyset of two primitives loads as neither. 576 random bytes are enough.
 pub fn rotate_alike(
     alloc: Global,
     keyset: &[u8],
@@ -99,6 +118,23 @@ pub fn rotate_alike(
 ) -> Result<Keyset, TinkError>
     ensures answer { Answers result (rotated_alike_by template.now (valid_keyset keyset.now) draws.old) }
     ensures rest { LeavesDraws result (left_alike_by template.now (valid_keyset keyset.now) draws.old) draws.old draws.new }
+    ensures valid { IfOk result IsValid }
+    ensures cause { 576 ≤ length draws.old
+        → IfErr result (λ e. (e.kind ≡ OutOfMemory) ⊎ IsNotAlike template.now (valid_keyset keyset.now) e.kind) }
+{
+    grow_alike(alloc, keyset, template, draws)
+}
+
+// The same, whose cause follows from its answer.
+fn grow_alike(
+    alloc: Global,
+    keyset: &[u8],
+    template: &str,
+    draws: &mut Draws,
+) -> Result<Keyset, TinkError>
+    ensures answer { Answers result (rotated_alike_by template.now (valid_keyset keyset.now) draws.old) }
+    ensures rest { LeavesDraws result (left_alike_by template.now (valid_keyset keyset.now) draws.old) draws.old draws.new }
+    ensures valid { IfOk result IsValid }
 {
     let registry = registry(alloc)?;
     let kt = named(&registry, template)?;
@@ -117,6 +153,7 @@ fn with_like_key(
     requires { registry.now ≡ with_everything }
     ensures answer { Answers result (rotated_alike kt.now draws.old handle) }
     ensures rest { LeavesDraws result (left_alike kt.now draws.old handle) draws.old draws.new }
+    ensures valid { IsValid handle → IfOk result IsValid }
 {
     let keyset = insecure::keyset_material(alloc, &handle)?;
     if !is_alike(&keyset, kt) {
@@ -136,7 +173,8 @@ fn with_like_key(
 /// The key is enabled and the primary one. The random bytes are taken as `keygen` takes them.
 ///
 /// # Errors
-/// Those of `keygen`.
+/// Those of `keygen`; `UnknownPrefix` exactly if the template is there and the given type is `UnknownPrefix`. 576 random
+/// bytes are enough.
 pub fn keygen_with_prefix(
     alloc: Global,
     template: &str,
@@ -145,6 +183,23 @@ pub fn keygen_with_prefix(
 ) -> Result<Keyset, TinkError>
     ensures answer { Answers result (prefixed_by prefix template.now draws.old) }
     ensures rest { LeavesDraws result (left_prefixed_by prefix template.now draws.old) draws.old draws.new }
+    ensures valid { IfOk result IsValid }
+    ensures cause { 576 ≤ length draws.old
+        → IfErr result (λ e. (e.kind ≡ OutOfMemory) ⊎ IsNotPrefixed prefix template.now e.kind) }
+{
+    make_prefixed(alloc, template, prefix, draws)
+}
+
+// The same, whose cause follows from its answer.
+fn make_prefixed(
+    alloc: Global,
+    template: &str,
+    prefix: Option<OutputPrefixType>,
+    draws: &mut Draws,
+) -> Result<Keyset, TinkError>
+    ensures answer { Answers result (prefixed_by prefix template.now draws.old) }
+    ensures rest { LeavesDraws result (left_prefixed_by prefix template.now draws.old) draws.old draws.new }
+    ensures valid { IfOk result IsValid }
 {
     let registry = registry(alloc)?;
     let kt = named(&registry, template)?;

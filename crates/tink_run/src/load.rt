@@ -38,7 +38,7 @@ fn build_all(alloc: Global, handle: &Handle) -> Result<TypedPrimitiveSet<StreamK
     ensures answer { GivesLoaded result (load_keys rows handle.now) }
     ensures primary { IfOk result (λ set. is_some set.primary ≡ true) }
 {
-    let registry = tink::registry(alloc)?;
+    let registry = tink::key_managers(alloc)?;
     build(alloc, handle, &registry)
 }
 

@@ -37,11 +37,13 @@ beginning input random = record {
   random = random;
 }
 
--- The name is of the file of another name. Every other name is of the same file as before.
+-- The name is of the file of another name. Every other name is of the same file as before, with the same other names.
 pub record IsLinked (old new : SystemState) (name target : List ℕ) : Type 0 where
   pub one : new.are_one name target ≡ true
   pub file : new.file name ≡ old.file target
   pub others : (other : List ℕ) → bytes_eq name other ≡ false → new.file other ≡ old.file other
+  pub apart : (other more : List ℕ) → bytes_eq name other ≡ false → bytes_eq name more ≡ false → new.are_one other more ≡ old.are_one other more
+  pub streams : (other : List ℕ) → new.is_stream other ≡ old.is_stream other
   pub known : new.is_known ≡ old.is_known
   pub input : new.input ≡ old.input
   pub random : new.random ≡ old.random

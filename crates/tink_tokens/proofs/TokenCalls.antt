@@ -15,7 +15,7 @@ use Rattle.tink_keysets.specs.Encrypted.{chained}
 use Rattle.tink_keysets.specs.Valid.{valid_keyset}
 use Rattle.tink_mac.specs.Rotation.{mac_entries}
 use Rattle.tink.specs.Managers.{row_of, Built}
-use Rattle.tink.specs.Registered.{with_everything}
+use Rattle.tink.specs.Registered.{managers_alone, with_everything}
 use Rattle.tink.specs.declared.managers.Managers.{Managers}
 use Rattle.tink_sets.specs.Groups.{group_of}
 use Rattle.tink_sets.specs.declared.entry.TypedEntry.{TypedEntry}
@@ -53,7 +53,7 @@ abbrev builds : Managers → List ℕ → Result Built Kind
 builds m value = (row_of m).built value
 
 -- what the managers of the registry give
-pub built_macs : (ks : Keyset) (r : Registered Managers) (result : Result (WrappedMac MacKind) TinkError) → r ≡ with_everything
+pub built_macs : (ks : Keyset) (r : Registered Managers) (result : Result (WrappedMac MacKind) TinkError) → r ≡ managers_alone
     → GivesSet (λ es w. IsMacOf kind_computes kind_verifies ks.primary_key_id es w.ps.primary w.ps.entries) result (mac_entries url supports_own builds r.managers ks)
     → GivesMacs result (macs_in ks)
 built_macs ks r result same gives =

@@ -9,7 +9,7 @@ ghost use Rattle.tink_tokens.specs.Tokens.{CompletesToken, Macs, RefusesSigning,
 
 use crate::input::read_input;
 use std::alloc::Global;
-use tink::{Managers, registry};
+use tink::{Managers, key_managers};
 use tink_io::{Sink, Source, TinkError, write_all};
 use tink_keysets::keyset::{Handle, insecure};
 use tink_mac::tokens::{sign, verify};
@@ -174,6 +174,6 @@ fn load_macs(alloc: Global, bytes: &[u8]) -> Result<WrappedMac<MacKind>, TinkErr
 fn build_macs(alloc: Global, handle: &Handle) -> Result<WrappedMac<MacKind>, TinkError>
     ensures { GivesMacs result (macs_in handle.now) }
 {
-    let registry = registry(alloc)?;
+    let registry = key_managers(alloc)?;
     tink_mac::new::<Managers, MacKind>(alloc, handle, &registry)
 }

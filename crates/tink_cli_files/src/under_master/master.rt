@@ -4,7 +4,7 @@ ghost use Rattle.tink_io.specs.Told.{Answers};
 ghost use Rattle.tink_cli_files.specs.Masters.{GivesMaster, master_in, master_of, valid_in_file};
 
 use std::alloc::Global;
-use tink::{Managers, registry};
+use tink::{Managers, key_managers};
 use tink_aead::{AeadKind, WrappedAead};
 use tink_io::TinkError;
 use tink_keyset_io::key_files::wire_bytes;
@@ -43,6 +43,6 @@ pub(crate) fn valid_in_file(alloc: Global, file: Vec<u8>) -> Result<Handle, Tink
 fn build_master(alloc: Global, handle: &Handle) -> Result<Master, TinkError>
     ensures { GivesMaster result (master_in handle.now) }
 {
-    let registry = registry(alloc)?;
+    let registry = key_managers(alloc)?;
     tink_aead::new::<Managers, AeadKind>(alloc, handle, &registry)
 }
