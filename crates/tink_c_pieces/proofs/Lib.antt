@@ -1,0 +1,2 @@
+pub mod DueFacts
+pub mod PutSteps
