@@ -1,2 +1,3 @@
 pub mod DueFacts
 pub mod PutSteps
+pub mod StreamFacts

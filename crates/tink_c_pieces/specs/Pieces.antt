@@ -49,6 +49,7 @@ module _ (seg : ℕ → Bool → List ℕ → List ℕ) (first room : ℕ) where
     pub front : new.front ≡ []
     pub held : new.held ≡ rest old piece
     pub counted : new.number ≡ old.number + length (filled old piece)
+    pub few : HasNumbers old piece
 
   -- the text needs a number above 2^32 - 1: the writer is spent
   pub record IsTooLong (old new : PieceMoment) (piece : List ℕ) : Type 0 where
@@ -123,3 +124,10 @@ module _ (seg : ℕ → Bool → List ℕ → List ℕ) (first room : ℕ) where
       IsGiven (λ bytes. (bytes ≡ ending old) × Ended old new) h
       ⊎ NeedsRoom (λ bytes. (bytes ≡ ending old) × (old.mode ≡ Open)) h
       ⊎ IsRefused (EndRefused old) h
+
+  -- the writer has taken this text, and gave these bytes, of a stream that begins with this front
+  pub record HasTaken (front text bytes : List ℕ) (m : PieceMoment) : Type 0 where
+    pub is_open : m.mode ≡ Open
+    pub counted : m.number ≡ length (full_chunks first room text)
+    pub held : m.held ≡ open_chunk first room text
+    pub given_is : bytes ++ m.front ≡ front ++ unmarked seg 0 (full_chunks first room text)

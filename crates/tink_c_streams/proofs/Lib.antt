@@ -1,1 +1,2 @@
 pub mod StreamSteps
+pub mod WriterFacts

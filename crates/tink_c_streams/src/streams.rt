@@ -106,7 +106,7 @@ pub fn range(
 }
 
 // The keyset of a file in the wire format.
-fn wire_in(alloc: Global, file: &[u8]) -> Result<Bytes, TinkError>
+pub(crate) fn wire_in(alloc: Global, file: &[u8]) -> Result<Bytes, TinkError>
     ensures { Answers result (wire_of file.now) }
 {
     let file = copied(alloc, file)?;

@@ -116,4 +116,4 @@ returns-clause-took g c =
     rw inv.sealer at (let f : length (held_text w) ≤ room_at w.sealer.first w.sealer.room w.segments = omega (arith, text_length w, w.held_fits) in f) in
     let done = proceeds_end first.sealer.first first.sealer.room first.segments _ inv.done w.segments (held_text w) (drop c.loop-at.at c.args.piece.now) inv.proceeds
     (drop_of_length-le c.args.piece.now {i = c.loop-at.at} (omega (arith, c.loop-at-test.false))) fits in
-    record { was_open = c.requires.open; is_open = inv.is_open; front = refl; held = done.1; counted = inv.proceeds.number ∙ ap (λ cs. first.segments + length cs) done.0 }
+    record { was_open = c.requires.open; is_open = inv.is_open; front = refl; held = done.1; counted = inv.proceeds.number ∙ ap (λ cs. first.segments + length cs) done.0; few = c.requires.few }
