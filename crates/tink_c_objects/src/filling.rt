@@ -79,7 +79,7 @@ fn load_prfs(alloc: Global, file: &[u8]) -> Result<Box<Object>, TinkError>
 }
 
 // An object on the heap.
-fn boxed(alloc: Global, object: Object) -> Result<Box<Object>, TinkError>
+pub(crate) fn boxed(alloc: Global, object: Object) -> Result<Box<Object>, TinkError>
     ensures ok { IfOk result (λ b. b.value ≡ object) }
     ensures err { IfErr result (λ e. e.kind ≡ OutOfMemory) }
 {
@@ -90,7 +90,7 @@ fn boxed(alloc: Global, object: Object) -> Result<Box<Object>, TinkError>
 }
 
 // Fills an object with what was loaded.
-fn fill(alloc: Global, owner: &mut Owner, loaded: Result<Box<Object>, TinkError>) -> u8
+pub(crate) fn fill(alloc: Global, owner: &mut Owner, loaded: Result<Box<Object>, TinkError>) -> u8
     ensures { Puts loaded (held_by owner.old) (held_by owner.new) result }
 {
     match loaded {

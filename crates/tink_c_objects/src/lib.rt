@@ -1,4 +1,4 @@
-//! Objects that C holds: the primitives of a keyset, which are loaded once and asked often.
+//! Objects that C holds: the primitives of a keyset, which are loaded once and asked often, and writers of streams.
 #![tactic(auto)]
 
 mod asking;
@@ -8,9 +8,11 @@ mod loose;
 mod object;
 mod owner;
 mod slot;
+mod writing;
 
 pub use asking::{aead_decrypt, aead_encrypt, daead_decrypt, daead_encrypt, prf_compute};
 pub use asking_macs::{mac_compute, mac_verify, token_sign, token_verify};
 pub use filling::{fill_aead, fill_daead, fill_mac, fill_prfs};
 pub use object::Object;
 pub use owner::Owner;
+pub use writing::{fill_writer, writer_bound, writer_end, writer_write};

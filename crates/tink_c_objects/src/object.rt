@@ -1,12 +1,14 @@
 //! What an object is.
 
 use tink_aead::{AeadKind, WrappedAead};
+use tink_c_pieces::PieceWriter;
 use tink_daead::WrappedDeterministicAead;
 use tink_daead::subtle::AesSiv;
 use tink_mac::{MacKind, WrappedMac};
 use tink_prf::{PrfKind, Set};
+use tink_streaming_aead::StreamSegment;
 
-/// The primitives of a keyset.
+/// The primitives of a keyset, or a writer of a stream.
 #[derive(Drop)]
 pub enum Object {
     /// AEADs.
@@ -17,4 +19,6 @@ pub enum Object {
     Mac(WrappedMac<MacKind>),
     /// Pseudorandom functions.
     Prfs(Set<PrfKind>),
+    /// A writer of a stream in pieces.
+    Writer(PieceWriter<StreamSegment>),
 }

@@ -2,6 +2,19 @@
 use Rattle.std.proofs.Common.{◌≡◌, ◌⊎◌, ◌≤◌, ◌<◌, ◌+◌, ◌^◌, inl, inr, ℕ, Bool, List, [], ◌∷◌, ◌++◌, length, take, drop, None, Some, Ok, ap, refl, sym, subst, ◌∙◌, arith, length-append}
 use Rattle.std.proofs.Math.Seq.{take-append_seam}
 use Rattle.std.proofs.lemmas.List.{length-take, length-take-le}
+use Rattle.std.specs.Prelude.{Option, Result, Err, IfOk, IfErr, MatchResult}
+use Rattle.tink_io.specs.Told.{Answers}
+use Rattle.tink_io.specs.declared.error.TinkError.{TinkError}
+use Rattle.loading_model.specs.Loading.{Loaded}
+use Rattle.tink_keyset_io.specs.Files.{wire_of}
+use Rattle.tink_run.specs.AllKeys.{load}
+use Rattle.tink_run.specs.HeldKeys.{GivesLoaded}
+use Rattle.tink_streaming_segment.specs.declared.segment_traits.SegmentEncrypter.{Ghosts}
+use Rattle.tink_streaming_segment.specs.Sealers.{segment_map}
+use Rattle.tink_streaming_io.specs.Sealers.{held_text}
+use Rattle.tink_streaming_io.specs.declared.writing.SegmentWriter.{SegmentWriter}
+use Rattle.tink_c_pieces.specs.Moments.{piece_moment}
+use Rattle.tink_c_pieces.specs.declared.writing.PieceWriter.{PieceWriter}
 use Rattle.tink_io.specs.declared.error.Kind.{Kind}
 use Rattle.tink_io.specs.declared.error.Kind.TheVariants.{Closed, FailedBefore, OutOfMemory, RandomFault, TooManySegments, UnknownHash, UnsupportedHash}
 use Rattle.stream_model.specs.Cut.{chunks, sealed}
@@ -18,14 +31,14 @@ use Rattle.tink_c_bytes.specs.Delivered.{Handed, IsGiven}
 use Rattle.tink_c_bytes.specs.Statuses.{c_status, ok}
 use Rattle.tink_c_pieces.specs.Pieces.{EndMeans, EndRefused, HasTaken, PieceMeans, PieceMoment, PieceRefused, Took, filled, given}
 use Rattle.tink_c_pieces.proofs.StreamFacts.{fresh, gives_all, numbers, takes_more}
-use Rattle.tink_c_streams.specs.Writers.{EndsStream, GoesOn, IsWriting, NoWriterUnder}
+use Rattle.tink_c_streams.specs.Writers.{BeginsNoWriter, BeginsWriter, EndsStream, GoesOn, IsNewWriter, IsWriting, NoNewWriter, NoWriterUnder}
 
 -- why a stream is not prepared is why there is no writer
 pub unprepared : (k : StreamKey) (aad draws left : List ℕ) (kind : Kind) → NotPrepared k draws left kind → NoWriterUnder k aad draws (kind_not_begun kind)
 unprepared k aad draws left OutOfMemory n = tt
 unprepared k aad draws left RandomFault n = n.few
-unprepared k aad draws left UnknownHash n = derives_nothing k.hkdf_hash k.main (salt_of k draws) aad (derived_bytes_of k.kind k.derived) UnknownHash n.hash
-unprepared k aad draws left UnsupportedHash n = derives_nothing k.hkdf_hash k.main (salt_of k draws) aad (derived_bytes_of k.kind k.derived) UnsupportedHash n.hash
+unprepared k aad draws left UnknownHash n = derives_nothing k.hkdf_hash UnknownHash k.main (salt_of k draws) aad (derived_bytes_of k.kind k.derived) n.hash
+unprepared k aad draws left UnsupportedHash n = derives_nothing k.hkdf_hash UnsupportedHash k.main (salt_of k draws) aad (derived_bytes_of k.kind k.derived) n.hash
 unprepared k aad draws left _ n = absurd n
 
 short : (out : List ℕ) → IsOutputPrefix out → length out ≤ 5
@@ -135,3 +148,42 @@ module _ (k : StreamKey) (aad random : List ℕ) (seg : ℕ → Bool → List �
         ∙ stream_is k aad salt prefix w.keys w.keys_are text
     ends old new h w (inr (inl n)) = λ e. absurd (omega (arith, e, n.status))
     ends old new h w (inr (inr r)) = λ e. absurd (not_ended old r.kind r.refuses (sym r.status ∙ e))
+
+-- from a writer under a key to one under a keyset and under a file
+module _ {E : Type 0} {g : Ghosts E} (aad random : List ℕ) where
+  abbrev pub Writes : StreamKey → PieceWriter E g → Type 0
+  Writes k w = IsWriting k aad random [] [] (segment_map w.writer.sealer) w.writer.sealer.first w.writer.sealer.room (piece_moment w)
+
+  pub with_front_writes : (k : StreamKey) (left front : List ℕ) (writer : SegmentWriter E g) (result : Result (PieceWriter E g) TinkError)
+      → IsPrepared k aad random left front (segment_map writer.sealer) writer.sealer.first writer.sealer.room writer.mode writer.segments (held_text writer)
+      → IfOk result (λ w. w.front.items ≡ front) → IfOk result (λ w. w.writer ≡ writer) → IfErr result (λ e. e ≡ record { kind = OutOfMemory })
+      → MatchResult result (Writes k) (λ e. NoWriterUnder k aad random e.kind)
+  with_front_writes k left front writer (Ok w) p f is e =
+      let moment : SegmentWriter E g → PieceMoment = λ v. record { front = w.front.items; mode = v.mode; number = v.segments; held = held_text v } in
+      let same : moment writer ≡ record { front = front; mode = writer.mode; number = writer.segments; held = held_text writer } = λ i. record { front = f i; mode = writer.mode; number = writer.segments; held = held_text writer } in
+      subst (λ (v : SegmentWriter E g). IsWriting k aad random [] [] (segment_map v.sealer) v.sealer.first v.sealer.room (moment v)) (sym is)
+      (begins k aad random (segment_map writer.sealer) writer.sealer.first writer.sealer.room left front writer.segments writer.mode (held_text writer) (moment writer) writer.sealer.some writer.sealer.first_fits p same)
+  with_front_writes k left front writer (Err x) p f is e = subst (λ (y : TinkError). NoWriterUnder k aad random y.kind) (sym e) tt
+
+  pub under_keyset : (wire : List ℕ) (k : StreamKey) (l : Loaded) (result : Result (PieceWriter E g) TinkError) → load wire ≡ Ok l → k ≡ l.primary
+      → MatchResult result (Writes k) (λ e. NoWriterUnder k aad random e.kind)
+      → MatchResult result (λ w. IsNewWriter wire aad random (segment_map w.writer.sealer) w.writer.sealer.first w.writer.sealer.room (piece_moment w)) (λ e. NoNewWriter wire aad random e.kind)
+  under_keyset wire k l (Ok w) loads is m = record { loaded = l; loads = loads; writes = subst (λ (x : StreamKey). Writes x w) is m }
+  under_keyset wire k l (Err e) loads is m = inr (inr (record { loaded = l; loads = loads; cause = subst (λ (x : StreamKey). NoWriterUnder x aad random e.kind) is m }))
+
+  pub under_file : (file wire : List ℕ) (result : Result (PieceWriter E g) TinkError) → wire_of file ≡ Ok wire
+      → MatchResult result (λ w. IsNewWriter wire aad random (segment_map w.writer.sealer) w.writer.sealer.first w.writer.sealer.room (piece_moment w)) (λ e. NoNewWriter wire aad random e.kind)
+      → MatchResult result (λ w. BeginsWriter file aad random (segment_map w.writer.sealer) w.writer.sealer.first w.writer.sealer.room (piece_moment w)) (λ e. BeginsNoWriter file aad random e.kind)
+  under_file file wire (Ok w) is m = record { wire = wire; reads = is; holds = m }
+  under_file file wire (Err e) is m = inr (inr (record { wire = wire; reads = is; holds = m }))
+
+pub not_loaded : (wire aad random : List ℕ) (e : TinkError) → GivesLoaded (Err e) (load wire) → NoNewWriter wire aad random e.kind
+not_loaded wire aad random e (inl want) = inl want
+not_loaded wire aad random e (inr is) = inr (inl is)
+
+pub no_file : (file aad random : List ℕ) (e : TinkError) → Answers {T = List ℕ} (Err e) (wire_of file) → BeginsNoWriter file aad random e.kind
+no_file file aad random e (inl want) = inl want
+no_file file aad random e (inr is) = inr (inl is)
+
+pub same_key : (x y : StreamKey) (o : Option StreamKey) → o ≡ Some x → o ≡ Some y → x ≡ y
+same_key x y o p q = let e : Some x ≡ Some y = sym p ∙ q in cc
