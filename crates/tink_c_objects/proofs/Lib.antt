@@ -1,3 +1,4 @@
 pub mod Values
 pub mod SlotSteps
 pub mod Filled
+pub mod WriterSteps
