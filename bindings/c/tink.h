@@ -65,8 +65,9 @@ enum {
   TINK_MASTER_FAILED = 34,
   TINK_RANDOM_FAULT = 35, /* fewer random bytes were handed in than the call takes */
   TINK_TOO_LITTLE_ROOM = 42,
-  TINK_CLOSED = 43, /* the object holds nothing, or another primitive */
+  TINK_CLOSED = 43, /* the object holds nothing or another primitive, or the writer was closed */
   TINK_DECRYPT_FAILED = 44,
+  TINK_FAILED_BEFORE = 45, /* the writer is spent: a call before was refused */
   TINK_TEXT_TOO_LONG = 46,
   TINK_DATA_TOO_LONG = 47,
   TINK_NOT_RAW = 48,
@@ -77,7 +78,7 @@ enum {
 enum {
   TINK_RANDOM_KEY = 576,    /* create, rotate, add */
   TINK_RANDOM_ENCRYPT = 16, /* encrypt, wrap */
-  TINK_RANDOM_STREAM = 39   /* seal, rewrap */
+  TINK_RANDOM_STREAM = 39   /* seal, rewrap, a writer */
 };
 
 /* ---- keysets */
@@ -218,7 +219,7 @@ tink_status tink_verify_token(const uint8_t *keyset, size_t keyset_len,
 /* ---- objects: a keyset is loaded once, and asked often
  *
  * An object begins as TINK_NONE (`tink_aead aead = TINK_NONE;`). `_new` fills it, and it owns memory then; `_free` empties it.
- * No other call changes what it holds. A call with an object that holds nothing, or another primitive, does nothing: it
+ * No other call changes what it holds, but those of a writer. A call with an object that holds nothing, or another primitive, does nothing: it
  * answers TINK_CLOSED. Of an object and its copies only one may be used. Only the library writes its fields.
  */
 typedef struct {
@@ -245,6 +246,11 @@ typedef struct {
   void *at;
   bool full;
 } tink_signer;
+
+typedef struct {
+  void *at;
+  bool full;
+} tink_writer;
 
 /* An object that holds nothing. */
 #define TINK_NONE {0, false}
@@ -343,7 +349,41 @@ tink_status tink_signer_verify(tink_signer *object,
 /* Frees what the object holds. It holds nothing then, and may be filled or freed again. */
 void tink_signer_free(tink_signer *object);
 
-/* ---- streams that are held whole: the files that the program `tink` encrypts */
+/* ---- streams that are written in pieces: the files that the program `tink` encrypts
+ *
+ * What the writes and the close give, one behind the other, is the stream of all pieces joined. A writer keeps the text of one
+ * segment; no call but `_new` takes memory. It has as many bytes of text as were written: nothing is lost if it is closed.
+ * A stream without the output of its close is truncated, and no reader takes it for whole.
+ */
+
+/* Fills an object with a writer of a new stream under the primary key. What it held before is freed. After another status it
+ * is as before. Nothing is given yet: the first write or the close gives the beginning of the stream.
+ * Statuses: those of keys, TINK_RANDOM_FAULT, TINK_UNSUPPORTED_HASH. */
+tink_status tink_writer_new(const uint8_t *keyset, size_t keyset_len,
+                            const uint8_t *associated_data, size_t associated_data_len,
+                            const uint8_t *random, size_t random_len,
+                            tink_writer *object);
+
+/* The room that is enough for a write of `length` bytes, and for the close behind it. After another status it is 0.
+ * Statuses: TINK_CLOSED, TINK_TOO_MANY_SEGMENTS, TINK_FAILED_BEFORE. */
+tink_status tink_writer_bound(tink_writer *object, size_t length, size_t *needed);
+
+/* The bytes of the stream that a piece of its text gives: the segments that are full. There may be none. After
+ * TINK_TOO_LITTLE_ROOM the writer is as before; after TINK_TOO_MANY_SEGMENTS it is spent.
+ * Statuses: TINK_CLOSED, TINK_TOO_MANY_SEGMENTS, TINK_FAILED_BEFORE. */
+tink_status tink_writer_write(tink_writer *object,
+                              const uint8_t *piece, size_t piece_len,
+                              uint8_t *out, size_t out_room, size_t *written);
+
+/* The last bytes of the stream. The writer takes no piece then. After TINK_TOO_LITTLE_ROOM it is as before.
+ * Statuses: TINK_CLOSED, TINK_FAILED_BEFORE. */
+tink_status tink_writer_close(tink_writer *object,
+                              uint8_t *out, size_t out_room, size_t *written);
+
+/* Frees what the object holds. It holds nothing then, and may be filled or freed again. */
+void tink_writer_free(tink_writer *object);
+
+/* ---- streams that are held whole */
 
 /* The stream of a plaintext under the primary key.
  * Statuses: those of keys, TINK_RANDOM_FAULT, TINK_UNSUPPORTED_HASH, TINK_TOO_MANY_SEGMENTS. */

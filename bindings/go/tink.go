@@ -44,6 +44,7 @@ const (
 	TooLittleRoom      Status = 42
 	Closed             Status = 43
 	DecryptFailed      Status = 44
+	FailedBefore       Status = 45
 	TextTooLong        Status = 46
 	DataTooLong        Status = 47
 	NotRaw             Status = 48
@@ -76,6 +77,7 @@ var texts = map[Status]string{
 	TooLittleRoom:      "the buffer is too small",
 	Closed:             "the object holds no keys: it was closed",
 	DecryptFailed:      "no key decrypts it with this associated data",
+	FailedBefore:       "a write before was refused: the writer takes no more",
 	TextTooLong:        "the plaintext is longer than the cipher takes",
 	DataTooLong:        "the associated data is longer than the cipher takes",
 	NotRaw:             "a pseudorandom function has a key with an output prefix",

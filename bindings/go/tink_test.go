@@ -156,6 +156,39 @@ func TestStream(t *testing.T) {
 }
 
 // No way to show a value shows the key, not even from within another struct.
+func TestEncryptingWriter(t *testing.T) {
+	keys := must[Keyset](t)(CreateKeyset("AES128_GCM_HKDF_4KB"))
+	text := make([]byte, 30000)
+	for _, length := range []int{1000, 4096, 65536} {
+		var stream bytes.Buffer
+		writer := must[*EncryptingWriter](t)(NewEncryptingWriter(&stream, keys, []byte("its name")))
+		for at := 0; at < len(text); at += length {
+			end := at + length
+			if end > len(text) {
+				end = len(text)
+			}
+			if n := must[int](t)(writer.Write(text[at:end])); n != end-at {
+				t.Fatal(n)
+			}
+		}
+		if err := writer.Close(); err != nil {
+			t.Fatal(err)
+		}
+		refused(t, writer.Close(), Closed)
+		_, err := writer.Write(text)
+		refused(t, err, Closed)
+		equal(t, must[[]byte](t)(OpenStream(keys, stream.Bytes(), []byte("its name"))), text)
+	}
+	var cut bytes.Buffer
+	writer := must[*EncryptingWriter](t)(NewEncryptingWriter(&cut, keys, nil))
+	must[int](t)(writer.Write(text))
+	if _, err := OpenStream(keys, cut.Bytes(), nil); err == nil {
+		t.Fatal("a stream without an end opens")
+	}
+	_, err := NewEncryptingWriter(&cut, Keyset("no keyset"), nil)
+	refused(t, err, BadKeyset)
+}
+
 func TestNothingShowsAKey(t *testing.T) {
 	k := Keyset("the key")
 	reader := NewRangeReader(k, []byte("the key"), nil)

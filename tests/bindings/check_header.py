@@ -25,7 +25,7 @@ RENAMED = {"template": "template_name", "template_len": "template_len"}
 RUST = {"In": "const uint8_t *", "Out": "uint8_t *", "Len": "size_t *", "bool": "bool", "Object": "object *"}
 RUST.update({"usize": "size_t", "u32": "uint32_t", "u64": "uint64_t"})
 PYTHON = {"in": ["const uint8_t *", "size_t"], "out": ["uint8_t *", "size_t", "size_t *"], "bool": ["bool"]}
-PYTHON.update({"u32": ["uint32_t"], "u64": ["uint64_t"], "size": ["size_t"], "object": ["object *"]})
+PYTHON.update({"u32": ["uint32_t"], "u64": ["uint64_t"], "size": ["size_t"], "object": ["object *"], "length": ["size_t *"]})
 # The wrappers pass each object as a pointer of one type.
 OBJECT = re.compile(r"^tink_\w+ \*$")
 # The wrappers in Rust and Go ask objects in place of these calls.

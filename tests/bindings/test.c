@@ -217,7 +217,73 @@ static void stream(data k, data a, data s, data t) {
   GIVES(none, tink_read_range, D(k), D(s), D(a), t.len, 10);
 }
 
+/* A call of a writer with exactly the room that it needs, and first with a byte less. What it gave goes behind the rest. */
+#define PUTS(sum, name, ...)                                              \
+  do {                                                                    \
+    size_t needed_;                                                       \
+    prepare();                                                            \
+    tink_status status_ = name(__VA_ARGS__, out, 0, &needed_);            \
+    CHECK(status_ == (needed_ ? TINK_TOO_LITTLE_ROOM : TINK_OK) && untouched()); \
+    if (needed_ == 0) break;                                              \
+    CHECK(name(__VA_ARGS__, out, needed_ - 1, &written) == TINK_TOO_LITTLE_ROOM && written == needed_ && untouched()); \
+    CHECK(needed_ <= most);                                               \
+    uint8_t *exact_ = malloc(needed_);                                    \
+    CHECK(name(__VA_ARGS__, exact_, needed_, &written) == TINK_OK && written == needed_); \
+    CHECK((sum).len + needed_ <= ROOM);                                   \
+    memcpy((sum).bytes + (sum).len, exact_, needed_);                     \
+    (sum).len += needed_;                                                 \
+    free(exact_);                                                         \
+  } while (0)
+
+/* A text in pieces of a length gives the same stream. */
+static void pieces(data k, data t, data a, data r, data s, size_t length) {
+  static uint8_t place[ROOM];
+  data sum = {place, 0};
+  size_t most;
+  tink_writer it = TINK_NONE;
+  CHECK(tink_writer_new(D(k), D(a), D(r), &it) == TINK_OK);
+  for (size_t at = 0; at < t.len; at += length) {
+    size_t n = t.len - at < length ? t.len - at : length;
+    CHECK(tink_writer_bound(&it, n, &most) == TINK_OK);
+    PUTS(sum, tink_writer_write, &it, t.bytes + at, n);
+  }
+  CHECK(tink_writer_bound(&it, 0, &most) == TINK_OK);
+  PUTS(sum, tink_writer_close, &it);
+  CHECK(sum.len == s.len && memcmp(sum.bytes, s.bytes, s.len) == 0);
+  REFUSES(TINK_CLOSED, tink_writer_write, &it, D(t));
+  REFUSES(TINK_CLOSED, tink_writer_close, &it);
+  CHECK(tink_writer_bound(&it, 1, &most) == TINK_CLOSED && most == 0);
+  tink_writer_free(&it);
+}
+
+static void writer(data k, data t, data a, data r, data s) {
+  static const size_t lengths[] = {1, 7, 4096, ROOM};
+  size_t most;
+  tink_writer it = TINK_NONE;
+  REFUSES(TINK_CLOSED, tink_writer_write, &it, D(t));
+  REFUSES(TINK_CLOSED, tink_writer_close, &it);
+  CHECK(tink_writer_new(D(k), D(a), r.bytes, 3, &it) == TINK_RANDOM_FAULT && !it.full);
+  CHECK(tink_writer_new(k.bytes, k.len - 1, D(a), D(r), &it) == TINK_BAD_KEYSET && !it.full);
+  for (refuse_at = 0;; refuse_at++) {
+    asked = 0;
+    tink_status status = tink_writer_new(D(k), D(a), D(r), &it);
+    if (status == TINK_OK && asked <= refuse_at) break;
+    CHECK(status == TINK_OK || status == TINK_OUT_OF_MEMORY);
+  }
+  /* no call with a writer takes memory */
+  refuse_at = asked = 0;
+  CHECK(tink_writer_bound(&it, 10, &most) == TINK_OK && most >= 10);
+  CHECK(tink_writer_write(&it, t.bytes, t.len < 10 ? t.len : 10, out, ROOM, &written) == TINK_OK && asked == 0);
+  refuse_at = -1;
+  CHECK(tink_writer_bound(&it, SIZE_MAX, &most) == TINK_TOO_MANY_SEGMENTS && most == 0);
+  REFUSES(TINK_CLOSED, tink_aead_encrypt, (tink_aead *)&it, D(t), D(a), D(r));
+  tink_writer_free(&it);
+  REFUSES(TINK_CLOSED, tink_writer_close, &it);
+  for (size_t i = 0; i < sizeof lengths / sizeof *lengths; i++) pieces(k, t, a, r, s, lengths[i]);
+}
+
 static void seal(data k, data t, data a, data r, data s) {
+  writer(k, t, a, r, s);
   GIVES(s, tink_seal_stream, D(k), D(t), D(a), D(r));
   GIVES(t, tink_open_stream, D(k), D(s), D(a));
   GIVES(s, tink_rewrap_stream, D(k), D(a), D(k), D(a), D(s), D(r));
@@ -329,7 +395,7 @@ static void vectors(const char *path) {
 
 /* Whether a status is one that the header declares. */
 static int is_declared(tink_status status) {
-  static const tink_status all[] = {0, 10, 13, 14, 15, 16, 17, 18, 19, 20, 21, 22, 23, 24, 25, 27, 28, 30, 31, 32, 33, 34, 35, 42, 43, 44, 46, 47, 48, 49};
+  static const tink_status all[] = {0, 10, 13, 14, 15, 16, 17, 18, 19, 20, 21, 22, 23, 24, 25, 27, 28, 30, 31, 32, 33, 34, 35, 42, 43, 44, 45, 46, 47, 48, 49};
   return memchr(all, status, sizeof all) != NULL;
 }
 
@@ -478,6 +544,32 @@ static void objects(int rounds) {
   for (int at = 0; at < 3; at++) tink_aead_free(&its[at]);
 }
 
+/* Texts in random pieces, whose streams open whole, and not without the output of the close. */
+static void written_in_pieces(int rounds) {
+  uint8_t random[TINK_RANDOM_KEY], keyset[1024];
+  static uint8_t text[20000], sum[ROOM], opened[ROOM];
+  size_t kn, on;
+  noise(random, sizeof random);
+  CHECK(tink_keyset_create((const uint8_t *)"AES128_CTR_HMAC_SHA256_4KB", 26, false, random, sizeof random, keyset, sizeof keyset, &kn) == TINK_OK);
+  for (int i = 0; i < rounds; i++) {
+    size_t tn = next() % sizeof text, at = 0, len = 0;
+    tink_writer it = TINK_NONE;
+    noise(text, tn);
+    noise(random, sizeof random);
+    CHECK(tink_writer_new(keyset, kn, random, 3, random, TINK_RANDOM_STREAM, &it) == TINK_OK);
+    while (at < tn) {
+      size_t n = next() % 9000 % (tn - at + 1);
+      CHECK(tink_writer_write(&it, text + at, n, sum + len, ROOM - len, &written) == TINK_OK);
+      at += n, len += written;
+    }
+    CHECK(len == 0 || tink_open_stream(keyset, kn, sum, len, random, 3, opened, ROOM, &on) != TINK_OK);
+    CHECK(tink_writer_close(&it, sum + len, ROOM - len, &written) == TINK_OK);
+    len += written;
+    CHECK(tink_open_stream(keyset, kn, sum, len, random, 3, opened, ROOM, &on) == TINK_OK && on == tn && memcmp(opened, text, tn) == 0);
+    tink_writer_free(&it);
+  }
+}
+
 /* ---- threads */
 
 static const char *shared_keyset = "080512500a480a30747970652e676f6f676c65617069732e636f6d2f676f6f676c652e63727970746f2e74696e6b2e41657347636d4b657912121a10000102030405060708090a0b0c0d0e0f1801100118052001";
@@ -516,6 +608,7 @@ int main(int argc, char **argv) {
   threads();
   loop(argc == 4 ? atoi(argv[3]) : 64);
   objects(argc == 4 ? atoi(argv[3]) : 64);
+  written_in_pieces(argc == 4 ? atoi(argv[3]) / 16 + 1 : 64);
   printf("C: %lu checks\n", checks);
   return 0;
 }

@@ -2,6 +2,7 @@
 
 import ctypes
 import ctypes.util
+import io
 import json
 import os
 import pickle
@@ -80,9 +81,71 @@ class Vectors(unittest.TestCase):
 
     def seal(self, keyset, text, data, random, stream):
         self.assertEqual(lib.output("tink_seal_stream", 0, keyset, text, data, random), stream)
+        for length in (1, 3, len(text) + 1):
+            handle, place = lib.Handle(), lib.Place()
+            lib.done("tink_writer_new", keyset, data, random, handle)
+            parts = [text[at : at + length] for at in range(0, len(text), length)]
+            given = [bytes(place.output("tink_writer_write", handle, part)) for part in parts]
+            given.append(bytes(place.output("tink_writer_close", handle)))
+            self.assertEqual(b"".join(given), stream)
+            lib.free("tink_writer_free", handle)
 
     def create(self, template, random, keyset):
         self.assertEqual(lib.output("tink_keyset_create", 0, template, False, random), keyset)
+
+
+class Writers(unittest.TestCase):
+    keys = Keyset.create("AES128_GCM_HKDF_4KB")
+
+    def test_pieces(self):
+        text = random.randbytes(30_000)
+        for length in (1000, 4096, 65536):
+            file = io.BytesIO()
+            with tink_proved.encrypting_writer(file, self.keys, b"its name") as writer:
+                for at in range(0, len(text), length):
+                    part = memoryview(text)[at : at + length]
+                    self.assertEqual(writer.write(part), len(part))
+            self.assertEqual(tink_proved.open_stream(self.keys, file.getvalue(), b"its name"), text)
+
+    def test_a_file_that_takes_little(self):
+        class Slow(io.BytesIO):
+            def write(self, data):
+                return super().write(data[:100])
+
+        file = Slow()
+        with io.BufferedWriter(tink_proved.encrypting_writer(file, self.keys)) as writer:
+            writer.write(bytes(10_000))
+        self.assertEqual(tink_proved.open_stream(self.keys, file.getvalue()), bytes(10_000))
+
+    def test_the_end(self):
+        file = io.BytesIO()
+        writer = tink_proved.encrypting_writer(file, self.keys)
+        self.assertTrue(writer.writable() and not writer.readable() and file.getvalue() == b"")
+        writer.close()
+        writer.close()
+        self.assertEqual(tink_proved.open_stream(self.keys, file.getvalue()), b"")
+        self.assertRaises(ValueError, writer.write, b"more")
+
+    def test_no_end(self):
+        """A stream whose writer was not closed does not open."""
+        first, second = io.BytesIO(), io.BytesIO()
+        with self.assertRaises(KeyError):
+            with tink_proved.encrypting_writer(first, self.keys) as writer:
+                writer.write(bytes(10_000))
+                raise KeyError
+        writer = tink_proved.encrypting_writer(second, self.keys)
+        writer.write(bytes(10_000))
+        del writer
+        for file in (first, second):
+            self.assertGreater(len(file.getvalue()), 4096)
+            with self.assertRaises((tink_proved.Truncated, tink_proved.BadSegment)):
+                tink_proved.open_stream(self.keys, file.getvalue())
+
+    def test_refused(self):
+        file = io.BytesIO()
+        self.assertRaises(tink_proved.BadKeyset, tink_proved.encrypting_writer, file, Keyset(b"no keyset"))
+        self.assertRaises(TypeError, tink_proved.encrypting_writer(file, self.keys).write, "a text")
+        self.assertEqual(file.getvalue(), b"")
 
 
 class Keysets(unittest.TestCase):

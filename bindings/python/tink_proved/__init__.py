@@ -4,11 +4,12 @@ from .errors import *  # noqa: F401,F403
 from .errors import TinkError
 from .keysets import Key, Keyset
 from .primitives import Aead, DeterministicAead, Mac, Prf, Signer, sign_token, verify_token
-from .streams import RangeReader, open_stream, read_range, rewrap_stream, seal_stream
+from .streams import EncryptingWriter, RangeReader, encrypting_writer, open_stream, read_range, rewrap_stream, seal_stream
 
 __all__ = [
     "Aead",
     "DeterministicAead",
+    "EncryptingWriter",
     "Key",
     "Keyset",
     "Mac",
@@ -16,6 +17,7 @@ __all__ = [
     "RangeReader",
     "Signer",
     "TinkError",
+    "encrypting_writer",
     "open_stream",
     "read_range",
     "rewrap_stream",

@@ -11,7 +11,7 @@ from .errors import error_of
 Data = Union[bytes, bytearray, memoryview]
 
 # What each function takes, in order. `in` is a pointer and a length; `out` a pointer, its room and where the length goes;
-# `object` a pointer to a Handle.
+# `object` a pointer to a Handle; `length` a pointer to where a length goes.
 FUNCTIONS: Dict[str, str] = {
     "tink_keyset_create": "in bool in out",
     "tink_keyset_rotate": "in in bool in out",
@@ -58,6 +58,11 @@ FUNCTIONS: Dict[str, str] = {
     "tink_signer_sign": "object in out",
     "tink_signer_verify": "object in out",
     "tink_signer_free": "object",
+    "tink_writer_new": "in in in object",
+    "tink_writer_bound": "object size length",
+    "tink_writer_write": "object in out",
+    "tink_writer_close": "object out",
+    "tink_writer_free": "object",
 }
 
 # Enough random bytes for each call that takes some.
@@ -81,6 +86,7 @@ _TYPES: Dict[str, List[Any]] = {
     "out": [ctypes.c_char_p, ctypes.c_size_t, ctypes.POINTER(ctypes.c_size_t)],
     "bool": [ctypes.c_bool],
     "object": [ctypes.POINTER(Handle)],
+    "length": [ctypes.POINTER(ctypes.c_size_t)],
     **{kind: [number] for kind, number in _NUMBERS.items()},
 }
 
@@ -177,3 +183,22 @@ def output(name: str, room: int, *values: Any) -> bytes:
         if status != _TOO_LITTLE_ROOM:
             raise error_of(status)
         room = written.value
+
+
+class Place:
+    """A buffer for outputs, which is kept from one call to the next."""
+
+    def __init__(self) -> None:
+        self._buffer = ctypes.create_string_buffer(1)
+
+    def output(self, name: str, *values: Any) -> memoryview:
+        """The output of a call, until the next one. A call that wants more room is made again."""
+        passed, call = _passed(name, values), getattr(_lib, name)
+        written = ctypes.c_size_t(0)
+        while True:
+            status = call(*passed, self._buffer, len(self._buffer), ctypes.byref(written))
+            if status == 0:
+                return memoryview(self._buffer).cast("B")[: written.value]
+            if status != _TOO_LITTLE_ROOM:
+                raise error_of(status)
+            self._buffer = ctypes.create_string_buffer(written.value + written.value // 8)

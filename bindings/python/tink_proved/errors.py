@@ -138,6 +138,11 @@ class DecryptFailed(TinkError):
     text = "no key decrypts it with this associated data"
 
 
+class FailedBefore(TinkError):
+    status = 45
+    text = "a write before was refused: the writer takes no more"
+
+
 class TextTooLong(TinkError):
     status = 46
     text = "the plaintext is longer than the cipher takes"

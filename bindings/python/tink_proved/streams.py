@@ -1,7 +1,7 @@
-"""Streams that are held whole: sealed, opened, read by ranges, and moved to another keyset."""
+"""Streams: written in pieces, or held whole and sealed, opened, read by ranges, and moved to another keyset."""
 
 import io
-from typing import Any
+from typing import Any, BinaryIO
 
 from . import _library as lib
 from .keysets import Keyset
@@ -32,6 +32,59 @@ def rewrap_stream(keyset: Keyset, associated_data: bytes, to: Keyset, to_associa
     return lib.output(
         "tink_rewrap_stream", room, bytes(keyset), associated_data, bytes(to), to_associated_data, stream, random
     )
+
+
+class EncryptingWriter(io.RawIOBase):
+    """A file whose bytes are encrypted into another file, in the memory of a segment. `close`, or the end of a `with`, writes
+    the last segment; the other file stays open. If an exception ends the `with`, the last segment is not written, so that the
+    stream does not pass for whole. The same holds of a writer that is dropped."""
+
+    def __init__(self, file: BinaryIO, keyset: Keyset, associated_data: bytes = b"") -> None:
+        self._file, self._handle, self._place = file, lib.Handle(), lib.Place()
+        lib.done("tink_writer_new", bytes(keyset), associated_data, lib.random(lib.RANDOM_STREAM), self._handle)
+
+    def writable(self) -> bool:
+        return True
+
+    def write(self, data: Any) -> int:
+        """Encrypts all of the data, and writes the segments that are full."""
+        if self.closed:
+            raise ValueError("write to a closed file")
+        self._put(self._place.output("tink_writer_write", self._handle, data))
+        return len(memoryview(data).cast("B"))
+
+    def close(self) -> None:
+        """Writes the last segment. A second call does nothing."""
+        if self.closed:
+            return
+        try:
+            self._put(self._place.output("tink_writer_close", self._handle))
+        finally:
+            self._free()
+
+    def _put(self, part: memoryview) -> None:
+        while part:
+            count = self._file.write(part)
+            part = part[len(part) if count is None else count :]
+
+    def _free(self) -> None:
+        lib.free("tink_writer_free", self._handle)
+        super().close()
+
+    def __exit__(self, kind: Any, *_: Any) -> None:
+        if kind is None:
+            self.close()
+        elif not self.closed:
+            self._free()
+
+    def __del__(self) -> None:
+        if not self.closed:
+            self._free()
+
+
+def encrypting_writer(file: BinaryIO, keyset: Keyset, associated_data: bytes = b"") -> EncryptingWriter:
+    """A file whose bytes are encrypted into another file, under the primary key. The program `tink decrypt` opens it."""
+    return EncryptingWriter(file, keyset, associated_data)
 
 
 class RangeReader(io.RawIOBase):

@@ -19,4 +19,4 @@ mod sys;
 pub use error::Error;
 pub use keyset::{Key, Keyset};
 pub use primitives::{Aead, DeterministicAead, Mac, Prf, Signer, sign_token, verify_token};
-pub use streams::{open_stream, read_range, rewrap_stream, seal_stream, RangeReader};
+pub use streams::{open_stream, read_range, rewrap_stream, seal_stream, EncryptingWriter, RangeReader};

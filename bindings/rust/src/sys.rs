@@ -51,6 +51,10 @@ functions! {
     fn tink_signer_new(k: In, kn: usize, it: Object);
     fn tink_signer_sign(it: Object, p: In, pn: usize, o: Out, on: usize, w: Len);
     fn tink_signer_verify(it: Object, t: In, tn: usize, o: Out, on: usize, w: Len);
+    fn tink_writer_new(k: In, kn: usize, a: In, an: usize, r: In, rn: usize, it: Object);
+    fn tink_writer_bound(it: Object, length: usize, needed: Len);
+    fn tink_writer_write(it: Object, p: In, pn: usize, o: Out, on: usize, w: Len);
+    fn tink_writer_close(it: Object, o: Out, on: usize, w: Len);
 }
 
 extern "C" {
@@ -59,6 +63,7 @@ extern "C" {
     pub fn tink_mac_free(it: Object);
     pub fn tink_prf_free(it: Object);
     pub fn tink_signer_free(it: Object);
+    pub fn tink_writer_free(it: Object);
 }
 
 /// An object of the library. It begins as `NONE`.

@@ -3,7 +3,7 @@
 use std::io::{Read, Seek, SeekFrom};
 use tink_proved::{
     open_stream, read_range, rewrap_stream, seal_stream, sign_token, verify_token, Aead, DeterministicAead,
-    Error, Keyset, Mac, Prf, RangeReader, Signer,
+    EncryptingWriter, Error, Keyset, Mac, Prf, RangeReader, Signer,
 };
 
 fn from_hex(word: &str) -> Vec<u8> {
@@ -125,6 +125,52 @@ fn a_whole_stream() {
     let other = Keyset::create("AES256_GCM_HKDF_4KB").unwrap();
     let moved = rewrap_stream((&keys, b"data"), (&other, b"new"), &stream).unwrap();
     assert_eq!(open_stream(&other, &moved, b"new").unwrap(), text);
+}
+
+#[test]
+fn a_stream_in_pieces() {
+    use std::io::Write;
+    // A writer that takes little, and then fails.
+    struct Slow(Vec<u8>, usize);
+    impl Write for Slow {
+        fn write(&mut self, bytes: &[u8]) -> std::io::Result<usize> {
+            let count = bytes.len().min(100).min(self.1 - self.0.len());
+            self.0.extend_from_slice(&bytes[..count]);
+            Ok(count)
+        }
+        fn flush(&mut self) -> std::io::Result<()> {
+            Ok(())
+        }
+    }
+    let keys = Keyset::create("AES128_GCM_HKDF_4KB").unwrap();
+    let text: Vec<u8> = (0..30_000u32).map(|i| i as u8).collect();
+    for length in [1000, 4096, 65536] {
+        let mut stream = Vec::new();
+        let mut writer = EncryptingWriter::new(&mut stream, &keys, b"its name").unwrap();
+        for piece in text.chunks(length) {
+            writer.write_all(piece).unwrap();
+        }
+        writer.flush().unwrap();
+        writer.end().unwrap();
+        assert_eq!(writer.write(b"more").unwrap_err().to_string(), Error::Closed.to_string());
+        assert!(writer.end().is_err());
+        drop(writer);
+        assert_eq!(open_stream(&keys, &stream, b"its name").unwrap(), text);
+    }
+    let mut slow = Slow(Vec::new(), 1 << 20);
+    let mut writer = EncryptingWriter::new(&mut slow, &keys, b"").unwrap();
+    writer.write_all(&text).unwrap();
+    writer.end().unwrap();
+    drop(writer);
+    assert_eq!(open_stream(&keys, &slow.0, b"").unwrap(), text);
+    // no end, and an end that fails
+    let mut cut = Vec::new();
+    EncryptingWriter::new(&mut cut, &keys, b"").unwrap().write_all(&text).unwrap();
+    assert!(open_stream(&keys, &cut, b"").is_err());
+    let mut full = Slow(Vec::new(), 5000);
+    let mut writer = EncryptingWriter::new(&mut full, &keys, b"").unwrap();
+    assert!(writer.write_all(&text).and_then(|()| writer.end()).is_err());
+    assert!(EncryptingWriter::new(Vec::new(), &Keyset::from(b"no keyset".to_vec()), b"").is_err());
 }
 
 #[test]

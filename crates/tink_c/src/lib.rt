@@ -8,3 +8,4 @@ mod keysets;
 mod objects;
 mod primitives;
 mod streams;
+mod writers;
