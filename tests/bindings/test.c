@@ -4,6 +4,7 @@
 #include <stdio.h>
 #include <stdlib.h>
 #include <string.h>
+#include <sys/mman.h>
 #include <tink.h>
 
 #define ROOM 65536
@@ -544,6 +545,28 @@ static void objects(int rounds) {
   for (int at = 0; at < 3; at++) tink_aead_free(&its[at]);
 }
 
+/* A text of more than 2^32 segments, of which no byte is read, spends a writer. A checker of memory may not give its memory. */
+static void too_long(void) {
+  uint8_t random[TINK_RANDOM_KEY] = {1};
+  size_t most, long_one = (size_t)1 << 45;
+  uint8_t *text = mmap(NULL, long_one, PROT_NONE, MAP_PRIVATE | MAP_ANONYMOUS | MAP_NORESERVE, -1, 0);
+  if (text == MAP_FAILED) return;
+  prepare();
+  CHECK(tink_keyset_create((const uint8_t *)"AES128_GCM_HKDF_4KB", 19, false, random, sizeof random, out, ROOM, &written) == TINK_OK);
+  data k = kept();
+  tink_writer it = TINK_NONE;
+  CHECK(tink_writer_new(D(k), random, 1, random, TINK_RANDOM_STREAM, &it) == TINK_OK);
+  CHECK(tink_writer_bound(&it, long_one, &most) == TINK_TOO_MANY_SEGMENTS && most == 0);
+  CHECK(tink_writer_bound(&it, long_one / 4, &most) == TINK_OK && most > long_one / 4);
+  REFUSES(TINK_TOO_MANY_SEGMENTS, tink_writer_write, &it, text, long_one);
+  REFUSES(TINK_FAILED_BEFORE, tink_writer_write, &it, random, (size_t)1);
+  REFUSES(TINK_FAILED_BEFORE, tink_writer_close, &it);
+  CHECK(tink_writer_bound(&it, 1, &most) == TINK_FAILED_BEFORE && most == 0);
+  tink_writer_free(&it);
+  munmap(text, long_one);
+  free(k.bytes);
+}
+
 /* Texts in random pieces, whose streams open whole, and not without the output of the close. */
 static void written_in_pieces(int rounds) {
   uint8_t random[TINK_RANDOM_KEY], keyset[1024];
@@ -605,6 +628,7 @@ int main(int argc, char **argv) {
   state = strtoull(argv[2], NULL, 10) * 2 + 1;
   vectors(argv[1]);
   edges();
+  too_long();
   threads();
   loop(argc == 4 ? atoi(argv[3]) : 64);
   objects(argc == 4 ? atoi(argv[3]) : 64);

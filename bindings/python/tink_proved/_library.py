@@ -152,7 +152,7 @@ def _passed(name: str, values: Any) -> List[Any]:
         if kind == "in":
             data = data_of(value)
             passed += [data, len(data)]
-        elif kind == "object":
+        elif kind in ("object", "length"):
             passed.append(ctypes.byref(value))
         else:
             passed.append(bool(value) if kind == "bool" else number_of(kind, value))

@@ -6,7 +6,7 @@ use Rattle.std.specs.Prelude.{ℕ, zero, suc, ◌+◌, ◌-◌, ◌*◌, ◌/◌
 abbrev pub chunks_due : ℕ → ℕ → ℕ → ℕ
 chunks_due first room n = (n - first + (room - 1)) / room
 
--- the bytes of so many segments: the first has `first` bytes, and each later one `size`
+-- the bytes of n segments: the first has `first` bytes, and each later one `size`
 abbrev pub bytes_due : ℕ → ℕ → ℕ → ℕ
 bytes_due first size zero = 0
 bytes_due first size (suc more) = first + more * size

@@ -71,7 +71,7 @@ module _ (seg : ℕ → Bool → List ℕ → List ℕ) (first room : ℕ) where
       ⊎ NeedsRoom (λ bytes. (bytes ≡ given old piece) × (old.mode ≡ Open) × HasNumbers old piece) h
       ⊎ IsRefused (PieceRefused old new piece) h
 
-  -- so many bytes a piece gives, and the text does not need a number above 2^32 - 1
+  -- a piece gives n bytes, and the text does not need a number above 2^32 - 1
   pub record IsLengthOf (m : PieceMoment) (piece : List ℕ) (n : ℕ) : Type 0 where
     pub long : n ≡ length (given m piece)
     pub few : HasNumbers m piece

@@ -17,7 +17,7 @@ pub(crate) fn chunks_due(first: usize, room: usize, held: usize, more: usize) ->
     ((more - spare - 1) / room) as u64 + 1
 }
 
-/// The bytes of so many segments of full chunks: the first has `first` bytes, and each later one `size`.
+/// The bytes of `count` segments of full chunks: the first has `first` bytes, and each later one `size`.
 pub(crate) fn bytes_due(first: usize, size: usize, count: u64) -> usize
     requires first { first ≤ size }
     requires size { size < 2 ^ 32 }
