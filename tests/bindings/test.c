@@ -547,10 +547,11 @@ static void objects(int rounds) {
 
 /* A text of more than 2^32 segments, of which no byte is read, spends a writer. A checker of memory may not give its memory. */
 static void too_long(void) {
-  uint8_t random[TINK_RANDOM_KEY] = {1};
+  uint8_t random[TINK_RANDOM_KEY];
   size_t most, long_one = (size_t)1 << 45;
   uint8_t *text = mmap(NULL, long_one, PROT_NONE, MAP_PRIVATE | MAP_ANONYMOUS | MAP_NORESERVE, -1, 0);
   if (text == MAP_FAILED) return;
+  noise(random, sizeof random);
   prepare();
   CHECK(tink_keyset_create((const uint8_t *)"AES128_GCM_HKDF_4KB", 19, false, random, sizeof random, out, ROOM, &written) == TINK_OK);
   data k = kept();
