@@ -1,4 +1,5 @@
-/* Times one call of the library, for benchmarks/bindings.sh. Words: what is called (encrypt, object, seal or open), a file of keys,
+/* Times one call of the library, for benchmarks/bindings.sh. Words: what is called (encrypt, object, seal, open, or write for a
+ * writer that takes pieces of 64 KiB), a file of keys,
  * the length of the plaintext, the number of calls, the number of rounds. Prints the seconds of a call, by the best round. */
 #include <stdio.h>
 #include <stdlib.h>
@@ -48,6 +49,18 @@ static tink_status open_stream(const uint8_t *in, size_t len, uint8_t *out, size
   return tink_open_stream(keys, keys_len, in, len, no_data, 0, out, room, written);
 }
 
+/* The stream of pieces of 64 KiB. Each output overwrites the one before, as a program that writes it to a file would do. */
+static tink_status write_pieces(const uint8_t *in, size_t len, uint8_t *out, size_t room, size_t *written) {
+  tink_writer writer = TINK_NONE;
+  draw();
+  tink_status status = tink_writer_new(keys, keys_len, no_data, 0, random_bytes, TINK_RANDOM_STREAM, &writer);
+  for (size_t at = 0; status == TINK_OK && at < len; at += 65536)
+    status = tink_writer_write(&writer, in + at, len - at < 65536 ? len - at : 65536, out, room, written);
+  if (status == TINK_OK) status = tink_writer_close(&writer, out, room, written);
+  tink_writer_free(&writer);
+  return status;
+}
+
 int main(int argc, char **argv) {
   want(argc == 6, "five words");
   FILE *file = fopen(argv[2], "rb");
@@ -64,6 +77,7 @@ int main(int argc, char **argv) {
     memcpy(in, out, len = written);
     call = open_stream;
   }
+  if (strcmp(argv[1], "write") == 0) call = write_pieces;
   if (strcmp(argv[1], "object") == 0) {
     want(tink_aead_new(keys, keys_len, &object) == TINK_OK, "new");
     call = by_object;

@@ -69,6 +69,13 @@ def calls():
             print(f"encrypt {size:6} bytes, {name + ':':18} {seconds * 1e6:8.2f} us a call, {seconds / own[size]:6.2f}")
 
 
+def write_pieces(keyset, data):
+    """A writer that takes pieces of 64 KiB, into a file that keeps nothing."""
+    with open("/dev/null", "wb", buffering=0) as file, tink_proved.encrypting_writer(file, keyset) as writer:
+        for at in range(0, len(data), 65536):
+            writer.write(data[at : at + 65536])
+
+
 def streams():
     keyset = Keyset.create("AES256_GCM_HKDF_1MB")
     keys, text = write("streams", bytes(keyset)), write("text", bytes(SIZE))
@@ -80,8 +87,12 @@ def streams():
         data = bytes(SIZE) if own == "seal" else sealed
         call = tink_proved.seal_stream if own == "seal" else tink_proved.open_stream
         python = best(lambda: call(keyset, data))
-        for name, seconds in (("program", its), ("C", c), ("Python", python)):
-            print(f"{what} 64 MiB, {name + ':':9} {SIZE / MIB / seconds:7.0f} MiB/s, {its / seconds:5.2f} of the program")
+        told = {"program": its, "C": c, "Python": python}
+        if own == "seal":
+            told["C, a writer"] = in_c("write", keys, SIZE, 1)
+            told["Python, a writer"] = best(lambda: write_pieces(keyset, data))
+        for name, seconds in told.items():
+            print(f"{what} 64 MiB, {name + ':':17} {SIZE / MIB / seconds:7.0f} MiB/s, {its / seconds:5.2f} of the program")
 
 
 calls()

@@ -18,7 +18,6 @@ fresh seg first room front m is opens none held =
     }
 
 module _ (seg : ℕ → Bool → List ℕ → List ℕ) (first room : ℕ) (some : 0 < first) (later : 0 < room) (front text bytes : List ℕ) where
-
   -- the chunks that a piece fills are those of the longer text behind those of the text
   pub fills : (m : PieceMoment) (piece : List ℕ) → HasTaken seg first room front text bytes m
       → full_chunks first room (text ++ piece) ≡ full_chunks first room text ++ filled seg first room m piece

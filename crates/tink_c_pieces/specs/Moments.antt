@@ -1,5 +1,5 @@
 -- What a contract sees of a writer of pieces.
-use Rattle.std.specs.Prelude.{List, ℕ, []}
+use Rattle.std.specs.Prelude.{[]}
 use Rattle.tink_streaming_segment.specs.declared.segment_traits.SegmentEncrypter.{Ghosts}
 use Rattle.tink_streaming_io.specs.Sealers.{held_text}
 use Rattle.tink_streaming_io.specs.declared.writing.SegmentWriter.{SegmentWriter}

@@ -1,5 +1,5 @@
 -- From a stream that is prepared to a writer, and from its calls to its stream.
-use Rattle.std.proofs.Common.{◌≡◌, ◌⊎◌, ◌≤◌, ◌<◌, ◌+◌, ◌^◌, inl, inr, ℕ, Bool, List, [], ◌∷◌, ◌++◌, length, take, drop, None, Some, Ok, ap, refl, sym, subst, ◌∙◌, arith, length-append}
+use Rattle.std.proofs.Common.{◌≡◌, ◌≤◌, ◌<◌, ◌+◌, ◌^◌, inl, inr, ℕ, Bool, List, [], ◌∷◌, ◌++◌, length, take, drop, Some, Ok, ap, sym, subst, ◌∙◌, arith, length-append}
 use Rattle.std.proofs.Math.Seq.{take-append_seam}
 use Rattle.std.proofs.lemmas.List.{length-take, length-take-le}
 use Rattle.std.specs.Prelude.{Option, Result, Err, IfOk, IfErr, MatchResult}
@@ -18,18 +18,18 @@ use Rattle.tink_c_pieces.specs.declared.writing.PieceWriter.{PieceWriter}
 use Rattle.tink_io.specs.declared.error.Kind.{Kind}
 use Rattle.tink_io.specs.declared.error.Kind.TheVariants.{Closed, FailedBefore, OutOfMemory, RandomFault, TooManySegments, UnknownHash, UnsupportedHash}
 use Rattle.stream_model.specs.Cut.{chunks, sealed}
-use Rattle.stream_model.specs.Key.{StreamKey, derived_bytes_of, first_room, front, header_length, keys_of, room, segment_at}
+use Rattle.stream_model.specs.Key.{StreamKey, derived_bytes_of, first_room, front, header_length, room, segment_at}
 use Rattle.stream_model.specs.Order.{IsOfKeyset, IsOutputPrefix}
-use Rattle.stream_model.specs.Sealing.{chunk_count, drawn, prefix_of, salt_of, stream}
+use Rattle.stream_model.specs.Sealing.{chunk_count, prefix_of, salt_of}
 use Rattle.stream_model.proofs.SealingFacts.{length-chunks}
 use Rattle.tink_streaming_keys.proofs.DerivedKeys.{derives_nothing}
 use Rattle.tink_streaming_keys.specs.NewStreams.{IsPrepared, NotPrepared}
 use Rattle.tink_streaming_io.specs.declared.writing.Mode.{Mode}
 use Rattle.tink_run.specs.SealSteps.{kind_not_begun}
 use Rattle.tink_run.proofs.SealSteps.{stream_is}
-use Rattle.tink_c_bytes.specs.Delivered.{Handed, IsGiven}
+use Rattle.tink_c_bytes.specs.Delivered.{Handed}
 use Rattle.tink_c_bytes.specs.Statuses.{c_status, ok}
-use Rattle.tink_c_pieces.specs.Pieces.{EndMeans, EndRefused, HasTaken, PieceMeans, PieceMoment, PieceRefused, Took, filled, given}
+use Rattle.tink_c_pieces.specs.Pieces.{EndMeans, EndRefused, PieceMeans, PieceMoment, PieceRefused, Took, filled, given}
 use Rattle.tink_c_pieces.proofs.StreamFacts.{fresh, gives_all, numbers, takes_more}
 use Rattle.tink_c_streams.specs.Writers.{BeginsNoWriter, BeginsWriter, EndsStream, GoesOn, IsNewWriter, IsWriting, NoNewWriter, NoWriterUnder}
 

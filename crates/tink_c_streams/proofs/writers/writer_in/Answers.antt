@@ -1,6 +1,5 @@
-use Rattle.std.proofs.Common.{◌∙◌, sym, subst}
+use Rattle.std.proofs.Common.{sym, subst}
 use Rattle.std.proofs.lemmas.Result.{err_from_is_err_and}
-use Rattle.stream_model.specs.Key.{StreamKey}
 use Rattle.stream_model.specs.Order.{IsOfKeyset}
 use Rattle.tink_run.proofs.LoadedFacts.{loaded_usable}
 use Rattle.tink_streaming_keys.specs.StreamKinds.{key_in_set}

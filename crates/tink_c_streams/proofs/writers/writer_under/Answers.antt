@@ -1,11 +1,9 @@
-use Rattle.std.proofs.Common.{◌∙◌, List, ℕ, sym, subst}
-use Rattle.std.proofs.lemmas.Result.{err_from_is_err_and}
+use Rattle.std.proofs.Common.{List, ℕ, subst}
 use Rattle.tink_streaming_segment.specs.Sealers.{segment_map}
 use Rattle.tink_streaming_io.specs.Sealers.{held_text}
-use Rattle.tink_streaming_keys.specs.NewStreams.{IsPrepared, NotPrepared}
+use Rattle.tink_streaming_keys.specs.NewStreams.{IsPrepared}
 use Rattle.tink_streaming_keys.specs.StreamKinds.{key_in_set}
-use Rattle.tink_c_streams.specs.Writers.{NoWriterUnder}
-use Rattle.tink_c_streams.proofs.WriterFacts.{front_short, unprepared, with_front_writes}
+use Rattle.tink_c_streams.proofs.WriterFacts.{front_short, with_front_writes}
 use Rattle.tink_c_streams.proofs.writers.writer_under.Goals as goal
 
 pub with_front-requires : goal.with_front-requires

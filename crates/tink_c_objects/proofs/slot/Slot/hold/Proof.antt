@@ -1,5 +1,5 @@
 -- `hold` keeps the pointer of a box, and what lies there.
-use Rattle.std.proofs.Common.{◌≡◌, List, [], ◌∷◌, ◌++◌, refl, Option, Some}
+use Rattle.std.proofs.Common.{◌≡◌, List, [], ◌∷◌, ◌++◌, refl, Some}
 use mir.Syntax.{Fn}
 use mir.Val.{Val, vptr}
 use base.Logic.{SProp, emp}

@@ -1,5 +1,5 @@
 -- `none` makes a slot that owns nothing.
-use Rattle.std.proofs.Common.{◌≡◌, List, [], ◌∷◌, ◌++◌, refl, lit<, Option, None, w64}
+use Rattle.std.proofs.Common.{◌≡◌, [], ◌∷◌, refl, lit<, None, w64}
 use mir.Syntax.{Fn}
 use mir.Val.{Val, vint}
 use base.Logic.{SProp, emp}
@@ -8,7 +8,7 @@ use contract.Monad.{fact, fact_i}
 use contract.Running.{tables}
 use types.Kit.{‵, raw, ◌⊛◌, ◌$◌, ◌∵◌, !, qed, by, move, drop, use0, split}
 use types.Part.{agg}
-use types.Run.{no_more, and_then, of_opd, lit, returns, enter}
+use types.Run.{no_more, and_then, lit, returns, enter}
 use types.ByLocal.{alloc_all, pass_all, free_all, look_at, sets}
 use denote.RattleType.{owns}
 use denote.RawPtr.{null_ptr}

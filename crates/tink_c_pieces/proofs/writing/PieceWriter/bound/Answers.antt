@@ -1,4 +1,4 @@
-use Rattle.std.proofs.Common.{inr, refl}
+use Rattle.std.proofs.Common.{inr}
 use Rattle.tink_io.specs.declared.error.Kind.TheVariants.{Closed, FailedBefore}
 use Rattle.tink_c_pieces.proofs.writing.PieceWriter.bound.Goals as goal
 

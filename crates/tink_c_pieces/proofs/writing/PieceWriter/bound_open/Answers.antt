@@ -1,5 +1,5 @@
-use Rattle.std.proofs.Common.{◌≡◌, ◌≤◌, ◌+◌, ◌-◌, ◌++◌, ℕ, zero, suc, List, true, inl, inr, length, ap, refl, sym, ◌∙◌, arith, length-append}
-use Rattle.stream_model.specs.Cut.{full_chunks, open_chunk, room_at}
+use Rattle.std.proofs.Common.{◌≤◌, ◌+◌, ◌++◌, ℕ, zero, suc, true, inl, inr, length, ap, refl, ◌∙◌, arith, length-append}
+use Rattle.stream_model.specs.Cut.{room_at}
 use Rattle.tink_streaming_segment.specs.Sealers.{segment_map}
 use Rattle.tink_io.specs.declared.error.Kind.TheVariants.{TooManySegments}
 use Rattle.tink_io.specs.declared.error.TinkError.{TinkError}

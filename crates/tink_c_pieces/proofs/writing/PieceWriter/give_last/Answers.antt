@@ -1,4 +1,4 @@
-use Rattle.std.proofs.Common.{◌≡◌, ◌≤◌, ◌+◌, ◌++◌, ℕ, List, true, inl, inr, length, drop, ap, refl, sym, ◌∙◌, arith, length-append}
+use Rattle.std.proofs.Common.{◌≡◌, ◌+◌, ◌++◌, ℕ, List, true, inl, inr, length, drop, ap, refl, sym, ◌∙◌, arith, length-append}
 use Rattle.tink_streaming_segment.specs.Sealers.{segment_map}
 use Rattle.tink_streaming_io.specs.Sealers.{held_text}
 use Rattle.tink_streaming_io.proofs.WriterSteps.{text_length}

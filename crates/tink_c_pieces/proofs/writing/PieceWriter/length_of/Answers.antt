@@ -1,4 +1,4 @@
-use Rattle.std.proofs.Common.{◌≡◌, ◌≤◌, ◌<◌, ◌+◌, ◌^◌, ◌++◌, ℕ, List, Bool, false, length, ap, sym, ◌∙◌, arith, length-append}
+use Rattle.std.proofs.Common.{◌≡◌, ◌<◌, ◌+◌, ◌++◌, ℕ, List, Bool, false, length, ap, sym, ◌∙◌, arith, length-append}
 use Rattle.stream_model.specs.Cut.{full_chunks, room_at, unmarked}
 use Rattle.tink_streaming_segment.specs.Sealers.{segment_map}
 use Rattle.tink_streaming_io.specs.Sealers.{held_text}
