@@ -9,7 +9,7 @@ from pathlib import Path
 sys.path.insert(0, str(Path(__file__).resolve().parents[2] / "bindings/python"))
 
 from tink_proved import Aead, DeterministicAead, Keyset, Mac, Prf, WrongPrimitive  # noqa: E402
-from tink_proved import open_stream, read_range, rewrap_stream, seal_stream, sign_token, verify_token  # noqa: E402
+from tink_proved import encrypting_writer, open_stream, read_range, rewrap_stream, seal_stream, sign_token, verify_token  # noqa: E402
 
 PROGRAM = os.path.abspath(sys.argv[1])
 checks = 0
@@ -43,6 +43,12 @@ def streams(text):
     program("encrypt", "-k", "keys.json", "--aad", "data", "-o", "theirs", "text")
     same(open_stream(keys, read("theirs"), b"data"), text)
     same(read_range(keys, read("theirs"), b"data", 5000, 300), text[5000:5300])
+    for keyset, name in ((keys, "keys.json"), (other, "other.json")):
+        with open("pieces", "wb") as file, encrypting_writer(file, keyset, b"data") as writer:
+            for at in range(0, len(text), 777):
+                writer.write(text[at : at + 777])
+        program("decrypt", "-k", name, "--aad", "data", "-o", f"out of {name}", "pieces")
+        same(read(f"out of {name}"), text)
     write("moved", rewrap_stream(keys, b"data", other, b"new", read("theirs")))
     program("decrypt", "-k", "other.json", "--aad", "new", "-o", "out2", "moved")
     same(read("out2"), text)
