@@ -155,6 +155,19 @@ def tokens():
         file.truncate(2**24 + 1)
     tink("sign", "-k", "macs.json", "-o", "given", "long", status=26, says="long: input too long")
     tink(*verify, "-k", "macs.json", "long", status=26, says="long: input too long")
+    # The token of the longest payload has as many bytes as `verify` reads. One byte more is refused, and nothing is written.
+    most = 12_582_890
+    write("long", bytes(most))
+    tink("sign", "-k", "macs.json", "-o", "token of long", "long")
+    check(os.path.getsize("token of long") == 2**24, "the longest token")
+    check(tink("verify", "-k", "macs.json", "token of long") == bytes(most), "the longest token is verified")
+    os.remove("token of long")
+    write("long", bytes(most + 1))
+    says = "long: input too long: its token has more than 16,777,216 bytes"
+    tink("sign", "-k", "macs.json", "-o", "given", "long", status=26, says=says)
+    tink("sign", "-k", "macs.json", "-o", "token of long", "long", status=26, says=says)
+    check(not os.path.exists("token of long"), "no file of a token that is too long")
+    check(tink("sign", "-k", "macs.json", "long", status=26, says=says) == b"", "nothing of a token that is too long")
     os.remove("long")
     tink("sign", "-k", "keys.json", "-o", "given", "payload", status=18, says="keys.json: wrong primitive")
     tink("sign", "-k", "prose", "-o", "given", "payload", status=13, says="prose: bad keyset")

@@ -22,6 +22,9 @@ const EMPTY: &str = "it is empty: give a file that `tink new` made";
 const OTHER_USE: &str =
     "its keys have another use than a key of this template: take a template of their use, or force it by --any";
 
+const LONG_TOKEN: &str =
+    "input too long: its token has more than 16,777,216 bytes, and `tink verify` reads none so long: sign a shorter file";
+
 /// The same error of a command, with the fault of its file, if a second reading finds one. The faults are a file without
 /// bytes, a rule that the keyset breaks, a wrapped file, one that is not wrapped, and a byte-order mark. Standard input gets its
 /// name. The status stays.
@@ -105,6 +108,7 @@ fn fault_of<Y: System>(
             None => None,
         },
         Kind::WrongPrimitive if action == Action::Rotate => Some(OTHER_USE),
+        Kind::InputTooLong if action == Action::Sign => Some(LONG_TOKEN),
         _ => None,
     }
 }

@@ -7,7 +7,6 @@ use Rattle.tink_io.specs.Faults.{Rose}
 use Rattle.tink_io.specs.Outside.{Outside}
 use Rattle.tink_io.specs.declared.error.TinkError.{TinkError}
 use Rattle.tink_run.specs.declared.report.Report.{Report}
-use Rattle.tink_cli_files.specs.Tasks.{TaskMeans}
 use Rattle.tink_cli_files.specs.declared.tasks.Task.{Task}
 use Rattle.tink_system.specs.States.{KeepsSystem, SystemState, content, known_bytes, known_content}
 use Rattle.tink_system.specs.Statuses.{refusal_status, trouble_status}
@@ -17,27 +16,23 @@ use Rattle.tink_cli_jobs.specs.Loading.{keyset_of}
 use Rattle.tink_cli_jobs.specs.Outputs.{KeepsFiles}
 use Rattle.tink_cli_jobs.specs.declared.job.Job.{Job}
 use Rattle.tink_cli_streams.specs.Breaking.{Breaks, BreaksLine, BreaksOn, IsUnmade, IsUnperformed, MayBreak, StaysOr, drawn_by}
+use Rattle.tink_cli_streams.specs.Fitting.{FittingMeans}
 use Rattle.tink_cli_streams.specs.Performing.{Spends, takes_random, text_for}
 use Rattle.tink_cli_streams.specs.Streams.{own_task}
 use Rattle.tink_cli_streams.proofs.PerformingLemmas.{content_earlier}
 
 -- a task that wrote to a sink
-pub broken : (task : Task) (keyset aad drawn rest : List ℕ) (old new : Outside) (answer : Result (Option Report) TinkError) (result : Result (Unit {0}) Trouble)
-    → TaskMeans task keyset aad drawn rest old new answer → OnOk answer (result ≡ Ok tt)
+pub may_break : (task : Task) (keyset aad drawn rest : List ℕ) (old new : Outside) (answer : Result (Option Report) TinkError) (result : Result (Unit {0}) Trouble)
+    → FittingMeans task keyset aad drawn rest old new answer → OnOk answer (result ≡ Ok tt)
     → IfErr answer (λ e. IsErrAnd result (λ t. trouble_status t ≡ refusal_status e.kind))
     → ((old.left ≡ None → ⊥) → Rose old.read_faults new.read_faults → ⊥)
-    → IfErr result (λ t. Breaks task keyset aad drawn old.left old.got new.got (trouble_status t))
-broken task keyset aad drawn rest old new (Ok report) (Ok done) means ok refused sure = tt
-broken task keyset aad drawn rest old new (Ok report) (Err t) means ok refused sure = absurd (cc)
-broken task keyset aad drawn rest old new (Err e) (Ok done) means ok refused sure = tt
-broken task keyset aad drawn rest old new (Err e) (Err t) means ok refused sure =
-    record { rest = rest; old = old; new = new; e = e; reads = refl; before = refl; after = refl; sure = sure; means = means; status_is = refused }
-
-pub may_break : (task : Task) (keyset aad drawn : List ℕ) (left got got_after : Option (List ℕ)) (result : Result (Unit {0}) Trouble)
-    → IfErr result (λ t. Breaks task keyset aad drawn left got got_after (trouble_status t))
-    → IfErr result (λ t. MayBreak None task keyset aad drawn left got got_after (trouble_status t))
-may_break task keyset aad drawn left got got_after (Ok done) broke = tt
-may_break task keyset aad drawn left got got_after (Err t) broke = inr broke
+    → IfErr result (λ t. MayBreak None task keyset aad drawn old.left old.got new.got (trouble_status t))
+may_break task keyset aad drawn rest old new (Ok report) (Ok done) means ok refused sure = tt
+may_break task keyset aad drawn rest old new (Ok report) (Err t) means ok refused sure = absurd (cc)
+may_break task keyset aad drawn rest old new (Err e) (Ok done) means ok refused sure = tt
+may_break task keyset aad drawn rest old new (Err e) (Err t) (inl means) ok refused sure =
+    inr (record { rest = rest; old = old; new = new; e = e; reads = refl; before = refl; after = refl; sure = sure; means = means; status_is = refused })
+may_break task keyset aad drawn rest old new (Err e) (Err t) (inr long) ok refused sure = inl long.sink.got
 
 -- nothing was written there
 pub quiet : (output : List ℕ) (task : Task) (keyset aad drawn : List ℕ) (left got : Option (List ℕ)) (result : Result (Unit {0}) Trouble)

@@ -2,21 +2,23 @@
 use Rattle.std.proofs.Common.{◌≡◌, ◌≤◌, inl, inr, ℕ, List, true, sym, ◌∙◌, subst, ap}
 use Rattle.std.specs.Prelude.{Bool, Option, Some, None, Result, Ok, Err, IfErr, IsErrAnd, IsSome, OnOk, option_map}
 use Rattle.tink_io.proofs.FaultLemmas.{Rose-earlier}
+use Rattle.tink_io.proofs.OutsideFacts.{told_whole}
 use Rattle.tink_io.specs.Faults.{Rose}
 use Rattle.tink_io.specs.Outside.{Outside}
 use Rattle.tink_io.specs.Places.{Ends}
+use Rattle.tink_io.specs.declared.error.Kind.{Kind}
 use Rattle.tink_io.specs.declared.error.TinkError.{TinkError}
 use Rattle.tink_run.specs.declared.report.Report.{Report}
 use Rattle.tink_cli_files.specs.Streams.{RanAndEnded}
-use Rattle.tink_cli_files.specs.Tasks.{TaskMeans}
 use Rattle.tink_cli_files.specs.declared.tasks.Task.{Task}
 use Rattle.tink_system.specs.States.{IsOfCause, IsUnopened, KeepsSystem, SystemState, content, known_bytes, known_content}
 use Rattle.tink_system.specs.Statuses.{refusal_status, trouble_status}
 use Rattle.tink_system.specs.declared.trouble.Trouble.{Trouble}
 use Rattle.tink_cli_jobs.specs.Outputs.{KeepsFiles}
 use Rattle.tink_cli_jobs.proofs.OutputLemmas.{some_of}
-use Rattle.tink_cli_streams.specs.Breaking.{Breaks, drawn_by}
+use Rattle.tink_cli_streams.specs.Breaking.{drawn_by}
 use Rattle.tink_cli_streams.specs.Causes.{HasTaskCause, IsOfTask, MayEnd}
+use Rattle.tink_cli_streams.specs.Fitting.{FittingMeans, IsTooLong}
 use Rattle.tink_cli_streams.specs.Performing.{Spends, takes_random, text_for}
 use Rattle.tink_cli_streams.proofs.BreakingLemmas.{spent}
 use Rattle.tink_cli_streams.proofs.PerformingLemmas.{content_earlier}
@@ -24,21 +26,35 @@ use Rattle.tink_cli_streams.proofs.PerformingLemmas.{content_earlier}
 some_none : (text : List ℕ) → Some text ≡ None → ⊥
 some_none text is = absurd (cc)
 
+-- a task that ended by an error, or whose result is too long
+of_error : (task : Task) (keyset aad drawn rest : List ℕ) (old new : Outside) (e : TinkError) (status : ℕ)
+    → FittingMeans task keyset aad drawn rest old new (Err e) → status ≡ refusal_status e.kind
+    → ((old.left ≡ None → ⊥) → Rose old.read_faults new.read_faults → ⊥) → MayEnd task keyset aad drawn old.left status
+of_error task keyset aad drawn rest old new e status (inl means) is sure = inr (inr (λ text left. inl (record {
+  rest = rest;
+  old = old;
+  new = new;
+  e = e;
+  reads = left;
+  sure = sure (λ none. some_none text (sym left ∙ none));
+  means = means;
+  status_is = is;
+})))
+of_error task keyset aad drawn rest old new e status (inr x) is sure = inr (inr (λ text left. inr (
+  is ∙ ap (λ (kind : Kind). refusal_status kind) x.kind,
+  subst (λ (t : List ℕ). IsTooLong task keyset t) (sym (told_whole old.left new.left text x.text left x.has.read x.has.at_end).0) x.long,
+)))
+
 -- a task that wrote to a sink
-pub written_ends : (task : Task) (keyset aad drawn : List ℕ) (left got got_after : Option (List ℕ)) (result : Result (Unit {0}) Trouble)
-    → IfErr result (λ t. Breaks task keyset aad drawn left got got_after (trouble_status t))
-    → IfErr result (λ t. MayEnd task keyset aad drawn left (trouble_status t))
-written_ends task keyset aad drawn left got got_after (Ok done) broke = tt
-written_ends task keyset aad drawn left got got_after (Err t) b = inr (inr (λ text is. record {
-  rest = b.rest;
-  old = b.old;
-  new = b.new;
-  e = b.e;
-  reads = b.reads ∙ is;
-  sure = b.sure (λ none. some_none text (sym is ∙ none));
-  means = b.means;
-  status_is = b.status_is;
-}))
+pub written_ends : (task : Task) (keyset aad drawn rest : List ℕ) (old new : Outside) (answer : Result (Option Report) TinkError) (result : Result (Unit {0}) Trouble)
+    → FittingMeans task keyset aad drawn rest old new answer → OnOk answer (result ≡ Ok tt)
+    → IfErr answer (λ e. IsErrAnd result (λ t. trouble_status t ≡ refusal_status e.kind))
+    → ((old.left ≡ None → ⊥) → Rose old.read_faults new.read_faults → ⊥)
+    → IfErr result (λ t. MayEnd task keyset aad drawn old.left (trouble_status t))
+written_ends task keyset aad drawn rest old new (Ok report) (Ok done) means ok refused sure = tt
+written_ends task keyset aad drawn rest old new (Ok report) (Err t) means ok refused sure = absurd (cc)
+written_ends task keyset aad drawn rest old new (Err e) (Ok done) means ok refused sure = tt
+written_ends task keyset aad drawn rest old new (Err e) (Err t) means ok refused sure = of_error task keyset aad drawn rest old new e (trouble_status t) means refused sure
 
 -- a pipe or a device that is not opened
 pub unopened_ends : (task : Task) (keyset aad drawn : List ℕ) (left : Option (List ℕ)) (cause : Type 0) (t : Trouble)
@@ -49,25 +65,17 @@ unopened_ends task keyset aad drawn left cause t (inr is) = inr (inl is.0)
 -- a task that wrote a draft: by its own answer and that of the draft's end
 drafted_by : (task : Task) (keyset aad drawn rest : List ℕ) (old new : Outside) (draft : Option (List ℕ)) (replaces : Bool) (before after : Option (Option (List ℕ)))
     (i j : ℕ) (answer : Result (Option Report) TinkError) (e : TinkError) (status : ℕ)
-    → TaskMeans task keyset aad drawn rest old new answer → Ends draft replaces before after i j answer (Err e) → status ≡ refusal_status e.kind
+    → FittingMeans task keyset aad drawn rest old new answer → Ends draft replaces before after i j answer (Err e) → status ≡ refusal_status e.kind
     → ((old.left ≡ None → ⊥) → Rose old.read_faults new.read_faults → ⊥)
     → MayEnd task keyset aad drawn old.left status
 drafted_by task keyset aad drawn rest old new draft replaces before after i j (Ok report) e status means ends is sure =
     inr (inl (is ∙ ap (λ (x : TinkError). refusal_status x.kind) ends.refusal))
-drafted_by task keyset aad drawn rest old new draft replaces before after i j (Err f) e status means ends is sure = inr (inr (λ text left. record {
-  rest = rest;
-  old = old;
-  new = new;
-  e = f;
-  reads = left;
-  sure = sure (λ none. some_none text (sym left ∙ none));
-  means = means;
-  status_is = is ∙ ap (λ (x : TinkError). refusal_status x.kind) ends.0;
-}))
+drafted_by task keyset aad drawn rest old new draft replaces before after i j (Err f) e status means ends is sure =
+    of_error task keyset aad drawn rest old new f status means (is ∙ ap (λ (x : TinkError). refusal_status x.kind) ends.0) sure
 
 pub drafted_ends : {P : Type 0} (got : P → Option (List ℕ)) (counted : P → ℕ) (task : Task) (keyset aad drawn rest : List ℕ) (old : Outside) (new : P → Outside)
     (replaces : Bool) (before after : Option (Option (List ℕ))) (faults : ℕ) (answer : Result (Option Report) TinkError) (result : Result (Unit {0}) Trouble)
-    → RanAndEnded got counted (λ draft a. TaskMeans task keyset aad drawn rest old (new draft) a) replaces before after faults answer
+    → RanAndEnded got counted (λ draft a. FittingMeans task keyset aad drawn rest old (new draft) a) replaces before after faults answer
     → OnOk answer (result ≡ Ok tt) → IfErr answer (λ e. IsErrAnd result (λ t. trouble_status t ≡ refusal_status e.kind))
     → ((draft : P) → (old.left ≡ None → ⊥) → Rose old.read_faults (new draft).read_faults → ⊥)
     → IfErr result (λ t. MayEnd task keyset aad drawn old.left (trouble_status t))

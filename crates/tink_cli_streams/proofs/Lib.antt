@@ -1,6 +1,7 @@
 pub mod BreakingLemmas
 pub mod CauseLemmas
 pub mod CheckingLemmas
+pub mod FittingLemmas
 pub mod LineCauseLemmas
 pub mod MovingLemmas
 pub mod OpenableLemmas

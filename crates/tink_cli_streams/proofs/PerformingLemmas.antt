@@ -13,6 +13,7 @@ use Rattle.tink_system.specs.States.{KeepsSystem, SystemState, content, known_by
 use Rattle.tink_system.specs.declared.trouble.Trouble.{Trouble}
 use Rattle.tink_cli_jobs.specs.Outputs.{IsPut, KeepsFiles}
 use Rattle.tink_cli_jobs.proofs.OutputLemmas.{put_earlier, some_of}
+use Rattle.tink_cli_streams.specs.Fitting.{IsDoneFitting}
 use Rattle.tink_cli_streams.specs.Performing.{IsPerformed, Makes, Spends, takes_random, text_for}
 use Rattle.tink_cli_streams.specs.Streams.{IsOpened}
 
@@ -33,14 +34,15 @@ got_all Verify keyset aad drawn left text before ends (Some report) done = absur
 -- written to a sink
 pub made_written : (task : Task) (keyset aad drawn left : List ℕ) (old new : Outside) (answer : Result (Option Report) TinkError) (P : TinkError → Trouble → Type 0)
     (result : Result (Unit {0}) Trouble)
-    → IfOk answer (λ report. (T G : List ℕ) → Told old T G → IsDone task keyset aad drawn left T G new report)
+    → IfOk answer (λ report. (T G : List ℕ) → Told old T G → IsDoneFitting task keyset aad drawn left T G new report)
     → IfErr answer (λ e. IsErrAnd result (P e))
     → OnOk result ((text before : List ℕ) → old.left ≡ Some text → old.got ≡ Some before → Makes task keyset aad drawn text before new.got)
 made_written task keyset aad drawn left old new (Ok report) P (Ok done) ok refused = λ text before reads got. record {
   left = left;
   report = report;
   ends = new;
-  done = ok text before (record { left = reads; got = got });
+  done = (ok text before (record { left = reads; got = got })).0;
+  fits = (ok text before (record { left = reads; got = got })).1;
   got = refl;
 }
 made_written task keyset aad drawn left old new (Ok report) P (Err t) ok refused = tt
@@ -52,20 +54,21 @@ pub made_shown : {D : Type 0} (got : D → Option (List ℕ)) (task : Task) (key
     (replaces : Bool) (before_shown shown : Option (Option (List ℕ))) (file : Option (List ℕ))
     (answer : Result (Option Report) TinkError) (P : TinkError → Trouble → Type 0) (result : Result (Unit {0}) Trouble)
     → ((d : D) → (after d).got ≡ got d)
-    → IfOk answer (λ report. IsShownWhole got (λ d value. (T G : List ℕ) → Told old T G → IsDone task keyset aad drawn left T G (after d) value) replaces before_shown shown report)
+    → IfOk answer (λ report. IsShownWhole got (λ d value. (T G : List ℕ) → Told old T G → IsDoneFitting task keyset aad drawn left T G (after d) value) replaces before_shown shown report)
     → IfErr answer (λ e. IsErrAnd result (P e))
     → ((f : Option (List ℕ)) → shown ≡ Some f → file ≡ f)
     → OnOk result ((text before : List ℕ) → old.left ≡ Some text → old.got ≡ Some before → Makes task keyset aad drawn text before file)
 made_shown got task keyset aad drawn left old after replaces before_shown shown file (Ok report) P (Ok done) same ok refused settled = λ text before reads has.
     let all = ok.whole text before (record { left = reads; got = has }) in
-    let known = got_all task keyset aad drawn left text before (after ok.draft) report all in
+    let known = got_all task keyset aad drawn left text before (after ok.draft) report all.0 in
     let whole : shown ≡ Some (Some known.0) =
     subst (λ (g : Option (List ℕ)). IfSome g (λ bytes. shown ≡ Some (Some bytes))) (sym (same ok.draft) ∙ known.1) ok.shown.whole in
     record {
       left = left;
       report = report;
       ends = after ok.draft;
-      done = all;
+      done = all.0;
+      fits = all.1;
       got = settled (Some known.0) whole ∙ sym known.1;
     }
 made_shown got task keyset aad drawn left old after replaces before_shown shown file (Ok report) P (Err t) same ok refused settled = tt

@@ -30,7 +30,8 @@ use Rattle.tink_cli_files.specs.Tasks.{CanDo, TaskMeans}
 use Rattle.tink_cli_files.specs.declared.tasks.Task.{Task}
 use Rattle.tink_cli_files.specs.declared.tasks.Task.TheVariants.{Rewrap, Run, Sign, Verify}
 use Rattle.tink_system.specs.Statuses.{refusal_status}
-use Rattle.tink_cli_streams.specs.Causes.{EndsBy}
+use Rattle.tink_cli_streams.specs.Causes.{EndsBy, IsEnded}
+use Rattle.tink_cli_streams.specs.Fitting.{CanMake}
 
 abbrev Stops : Kind → Type 0
 Stops kind = (kind ≡ OutOfMemory) ⊎ (kind ≡ WriteFault)
@@ -249,11 +250,16 @@ task_stops Verify keyset aad drawn rest text old new e means left sure can =
     token_stops VerifiesTo RefusesVerifying verify_apart keyset text old new left sure can e.kind means.means
 
 -- by its status
-pub ends_stop : (task : Task) (keyset aad drawn text : List ℕ) (status : ℕ) → EndsBy task keyset aad drawn text status → CanDo task keyset aad drawn text
+by_kind : (task : Task) (keyset aad drawn text : List ℕ) (status : ℕ) → EndsBy task keyset aad drawn text status → CanDo task keyset aad drawn text
     → (status ≡ 10) ⊎ (status ≡ 12)
-ends_stop task keyset aad drawn text status ends can =
+by_kind task keyset aad drawn text status ends can =
     by (task_stops task keyset aad drawn ends.rest text ends.old ends.new ends.e ends.means ends.reads ends.sure can)
   where
     by : Stops ends.e.kind → (status ≡ 10) ⊎ (status ≡ 12)
     by (inl want) = inl (ends.status_is ∙ ap (λ (k : Kind). refusal_status k) want)
     by (inr unwritten) = inr (ends.status_is ∙ ap (λ (k : Kind). refusal_status k) unwritten)
+
+pub ends_stop : (task : Task) (keyset aad drawn text : List ℕ) (status : ℕ) → IsEnded task keyset aad drawn text status → CanMake task keyset aad drawn text
+    → (status ≡ 10) ⊎ (status ≡ 12)
+ends_stop task keyset aad drawn text status (inl ends) can = by_kind task keyset aad drawn text status ends can.0
+ends_stop task keyset aad drawn text status (inr long) can = absurd (can.1 long.1)

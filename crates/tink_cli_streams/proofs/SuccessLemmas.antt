@@ -8,7 +8,6 @@ use Rattle.tink_cli_words.specs.declared.form.Action.TheVariants.{Decrypt}
 use Rattle.tink_io.proofs.FaultLemmas.{Rose-earlier}
 use Rattle.tink_io.specs.declared.error.Kind.{Kind}
 use Rattle.tink_run.specs.declared.report.Command.TheVariants.{Open}
-use Rattle.tink_cli_files.specs.Tasks.{CanDo}
 use Rattle.tink_cli_files.specs.declared.tasks.Task.{Task}
 use Rattle.tink_cli_files.specs.declared.tasks.Task.TheVariants.{Run}
 use Rattle.tink_system.specs.States.{SystemState, content}
@@ -19,6 +18,7 @@ use Rattle.tink_cli_jobs.specs.Loading.{HasStatusOf, keyset_of, named}
 use Rattle.tink_cli_jobs.specs.Protecting.{names_twice}
 use Rattle.tink_cli_streams.specs.Breaking.{drawn_by}
 use Rattle.tink_cli_streams.specs.Causes.{HasMakeCause, IsMakeable, IsOfMake, IsOfTask, IsUnkeyed, MayStop}
+use Rattle.tink_cli_streams.specs.Fitting.{CanMake}
 use Rattle.tink_cli_streams.specs.Performing.{takes_random, text_for}
 use Rattle.tink_cli_streams.specs.Streams.{IsChecked, IsOpenable}
 use Rattle.tink_cli_streams.proofs.CheckingLemmas.{same_file, same_value, same_words}
@@ -52,26 +52,26 @@ one_keyset line s one other keys are =
     same_value (keyset_of s are.words) one other (sym words ∙ keys.loaded) are.loaded
 
 -- a task that can be done
-task_done : (task : Task) (keyset aad drawn text : List ℕ) (s : SystemState) (input : Option (List ℕ)) (status : ℕ) → content s input ≡ Some text → CanDo task keyset aad drawn (text_for task text)
+task_done : (task : Task) (keyset aad drawn text : List ℕ) (s : SystemState) (input : Option (List ℕ)) (status : ℕ) → content s input ≡ Some text → CanMake task keyset aad drawn (text_for task text)
     → IsOfTask task keyset aad drawn s input status → (status ≡ 10) ⊎ (status ≡ 12)
 task_done task keyset aad drawn text s input status read can (inl absent) = absurd (not_there (content s input) text read absent.1)
 task_done task keyset aad drawn text s input status read can (inr of) =
     ends_stop task keyset aad drawn (text_for task of.text) status of.ends
-    (subst (λ (x : List ℕ). CanDo task keyset aad drawn (text_for task x)) (same_text (content s input) text of.text read of.read) can)
+    (subst (λ (x : List ℕ). CanMake task keyset aad drawn (text_for task x)) (same_text (content s input) text of.text read of.read) can)
 
 or_rose : (before now status : ℕ) → (status ≡ 10) ⊎ (status ≡ 12) → MayStop before now status
 or_rose before now status (inl want) = inl want
 or_rose before now status (inr unwritten) = inr (inl unwritten)
 
 of_make : (task : Task) (keyset text : List ℕ) (line : LineRead) (s : SystemState) (before now status : ℕ) → IsKeysetOf line s line.keys keyset → content s (named line.first) ≡ Some text
-    → CanDo task keyset (data_of line.aad) (drawn_by (takes_random task) s) (text_for task text) → names_twice line ≡ false → IsOfMake (Some task) line s status
+    → CanMake task keyset (data_of line.aad) (drawn_by (takes_random task) s) (text_for task text) → names_twice line ≡ false → IsOfMake (Some task) line s status
     → MayStop before now status
 of_make task keyset text line s before now status keys read can once (inl (inl unspelled)) = absurd (not_there line.keys keys.file keys.given unspelled.1)
 of_make task keyset text line s before now status keys read can once (inl (inr twice)) = absurd (true≢false (sym twice.1 ∙ once))
 of_make task keyset text line s before now status keys read can once (inr (inl un)) = absurd (keyed line s keyset status keys un)
 of_make task keyset text line s before now status keys read can once (inr (inr ends)) =
     or_rose before now status (task_done task ends.keyset (data_of line.aad) (drawn_by (takes_random task) s) text s (named line.first) status read
-    (subst (λ (k : List ℕ). CanDo task k (data_of line.aad) (drawn_by (takes_random task) s) (text_for task text)) (one_keyset line s keyset ends.keyset keys ends.keys) can) ends.cause)
+    (subst (λ (k : List ℕ). CanMake task k (data_of line.aad) (drawn_by (takes_random task) s) (text_for task text)) (one_keyset line s keyset ends.keyset keys ends.keys) can) ends.cause)
 
 -- a command whose task can be done ends by no other error
 pub made_stops : (action : Action) (line : LineRead) (s : SystemState) (before now status : ℕ) → HasMakeCause action line s before now status → IsMakeable action line s
@@ -90,7 +90,7 @@ made_succeeds action line s before now (Err t) cause = λ known can once. made_s
 
 -- what can be opened can be decrypted
 pub openable_makeable : (line : LineRead) (s : SystemState) → IsOpenable line s → IsMakeable Decrypt line s
-openable_makeable line s is = record { task = Run Open; is_of = refl; keyset = is.keyset; keys = is.keys; text = is.text; read = is.read; can = is.can }
+openable_makeable line s is = record { task = Run Open; is_of = refl; keyset = is.keyset; keys = is.keys; text = is.text; read = is.read; can = (is.can, λ long. long) }
 
 -- what was checked is decrypted
 pub checked_decrypts : (line : LineRead) (s : SystemState) (before now status : ℕ) → IsChecked line s → HasMakeCause Decrypt line s before now status → MayStop before now status

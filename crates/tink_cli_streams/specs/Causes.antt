@@ -5,7 +5,7 @@ use Rattle.tink_cli_words.specs.declared.form.Action.{Action}
 use Rattle.tink_io.specs.Faults.{Rose}
 use Rattle.tink_io.specs.Outside.{Outside}
 use Rattle.tink_io.specs.declared.error.TinkError.{TinkError}
-use Rattle.tink_cli_files.specs.Tasks.{CanDo, TaskMeans}
+use Rattle.tink_cli_files.specs.Tasks.{TaskMeans}
 use Rattle.tink_cli_files.specs.declared.tasks.Task.{Task}
 use Rattle.tink_system.specs.States.{SystemState, content}
 use Rattle.tink_system.specs.Statuses.{refusal_status}
@@ -14,6 +14,7 @@ use Rattle.tink_cli_jobs.specs.Loading.{HasStatusOf, keyset_of, named}
 use Rattle.tink_cli_jobs.specs.Protecting.{names_twice}
 use Rattle.tink_cli_jobs.specs.declared.keys.KeyWords.{KeyWords}
 use Rattle.tink_cli_streams.specs.Breaking.{drawn_by}
+use Rattle.tink_cli_streams.specs.Fitting.{CanMake, IsTooLong}
 use Rattle.tink_cli_streams.specs.Performing.{takes_random, text_for}
 use Rattle.tink_cli_streams.specs.Streams.{IsMoveTo, own_task}
 
@@ -36,9 +37,13 @@ pub record EndsBy (task : Task) (keyset aad drawn text : List ℕ) (status : ℕ
   pub means : TaskMeans task keyset aad drawn rest old new (Err e)
   pub status_is : status ≡ refusal_status e.kind
 
+-- A task over this text ends so, or by 26: what it makes of the text is too long.
+abbrev pub IsEnded : Task → List ℕ → List ℕ → List ℕ → List ℕ → ℕ → Type 0
+IsEnded task keyset aad drawn text status = EndsBy task keyset aad drawn text status ⊎ ((status ≡ 26) × IsTooLong task keyset text)
+
 -- if the source has a known text
 abbrev pub EndsOver : Task → List ℕ → List ℕ → List ℕ → Option (List ℕ) → ℕ → Type 0
-EndsOver task keyset aad drawn left status = (text : List ℕ) → left ≡ Some text → EndsBy task keyset aad drawn text status
+EndsOver task keyset aad drawn left status = (text : List ℕ) → left ≡ Some text → IsEnded task keyset aad drawn text status
 
 -- there is no memory, something could not be written, or the task ended so
 abbrev pub MayEnd : Task → List ℕ → List ℕ → List ℕ → Option (List ℕ) → ℕ → Type 0
@@ -48,7 +53,7 @@ MayEnd task keyset aad drawn left status = (status ≡ 10) ⊎ (status ≡ 12) �
 pub record EndsOf (task : Task) (keyset aad drawn : List ℕ) (s : SystemState) (input : Option (List ℕ)) (status : ℕ) : Type 0 where
   pub text : List ℕ
   pub read : content s input ≡ Some text
-  pub ends : EndsBy task keyset aad drawn (text_for task text) status
+  pub ends : IsEnded task keyset aad drawn (text_for task text) status
 
 -- nothing has the name of the input, or the task ends so
 abbrev pub IsOfTask : Task → List ℕ → List ℕ → List ℕ → SystemState → Option (List ℕ) → ℕ → Type 0
@@ -109,7 +114,7 @@ HasMoveCause line s before now status = (status ≡ 10) ⊎ (status ≡ 12) ⊎ 
 
 -- ---- when a command succeeds
 
--- the keyset of the words loads, and the task can be done with the input and the data that they name
+-- The keyset of the words loads, and the task can be done with the input and the data that they name. What it makes is not too long.
 pub record IsMakeable (action : Action) (line : LineRead) (s : SystemState) : Type 0 where
   pub task : Task
   pub is_of : own_task action ≡ Some task
@@ -117,4 +122,4 @@ pub record IsMakeable (action : Action) (line : LineRead) (s : SystemState) : Ty
   pub keys : IsKeysetOf line s line.keys keyset
   pub text : List ℕ
   pub read : content s (named line.first) ≡ Some text
-  pub can : CanDo task keyset (data_of line.aad) (drawn_by (takes_random task) s) (text_for task text)
+  pub can : CanMake task keyset (data_of line.aad) (drawn_by (takes_random task) s) (text_for task text)

@@ -8,6 +8,7 @@ use Rattle.tink_cli_files.specs.declared.tasks.Task.{Task}
 use Rattle.tink_cli_files.specs.declared.tasks.Task.TheVariants.{Rewrap, Run, Sign, Verify}
 use Rattle.tink_system.specs.States.{SystemState, content}
 use Rattle.tink_cli_jobs.specs.Outputs.{IsPut}
+use Rattle.tink_cli_streams.specs.Fitting.{IsTooLong}
 use Rattle.tink_cli_streams.specs.Trimming.{trimmed_if}
 
 -- whether a task takes random bytes
@@ -34,12 +35,13 @@ abbrev pub Spends : Bool → SystemState → SystemState → List ℕ → Type 0
 Spends true old new drawn = (drawn ≡ take 1024 old.random) × (new.random ≡ drop 1024 old.random)
 Spends false old new drawn = (drawn ≡ []) × (new.random ≡ old.random)
 
--- exactly what a task makes of the whole text is behind what was there
+-- exactly what a task makes of the whole text is behind what was there, and is not too long
 pub record Makes (task : Task) (keyset aad drawn text before : List ℕ) (after : Option (List ℕ)) : Type 0 where
   pub left : List ℕ
   pub report : Option Report
   pub ends : Outside
   pub done : IsDone task keyset aad drawn left text before ends report
+  pub fits : IsTooLong task keyset text → ⊥
   pub got : after ≡ ends.got
 
 -- a task was done: of all of the input, under this keyset and these data, by the next random bytes

@@ -2,6 +2,7 @@
 #![tactic(auto)]
 
 pub mod checking;
+mod fitting;
 mod performing;
 pub mod streams;
 mod trimming;

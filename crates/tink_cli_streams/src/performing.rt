@@ -2,7 +2,7 @@
 
 ghost use Rattle.std.specs.Prelude.{◌≡◌, ◌≤◌, ℕ, List, Some, None, Ok, true, false, IfErr, IfOk, IfSome, IsErrAnd, OnErr, OnOk, option_map};
 ghost use Rattle.tink_cli_jobs.specs.Outputs.{IsInFile, IsPut, KeepsFiles, KeepsOtherFiles};
-ghost use Rattle.tink_cli_streams.specs.Breaking.{Breaks, IsUnperformed, MayBreak, drawn_by};
+ghost use Rattle.tink_cli_streams.specs.Breaking.{IsUnperformed, MayBreak, drawn_by};
 ghost use Rattle.tink_cli_streams.specs.Causes.{HasTaskCause, MayEnd};
 ghost use Rattle.tink_cli_streams.specs.Performing.{IsPerformed, Makes, Spends, takes_random, text_for, trims};
 ghost use Rattle.tink_cli_streams.specs.Trimming.{unread};
@@ -10,9 +10,10 @@ ghost use Rattle.tink_io.specs.Faults.{Rose};
 ghost use Rattle.tink_system.specs.States.{IsOfCause, KeepsSystem, known_content};
 ghost use Rattle.tink_system.specs.Statuses.{refusal_status, trouble_status};
 
+use crate::fitting::{save_fitting, write_fitting};
 use crate::trimming::Trimmed;
 use std::alloc::Global;
-use tink_cli_files::{Task, save_task, write_task};
+use tink_cli_files::Task;
 use tink_cli_jobs::{DRAWN, Job, WRITE_FAULT, how_of};
 use tink_io::{Draws, Kind, Sink, TinkError};
 use tink_run::report::{Command, Report};
@@ -156,12 +157,14 @@ fn put<'w, Y: System, K: Sink>(
 ) -> Result<(), Trouble<'w>>
     ensures done { OnOk result ((text before : List ℕ) → unread input.old.trims input.old.held (Y.Input.left input.old.source) ≡ Some text → K.got sink.old ≡ Some before
         → Makes task.entry keyset.now job.now.aad.now draws.old text before (K.got sink.new)) }
-    ensures broken { IfErr result (λ t. Breaks task.entry keyset.now job.now.aad.now draws.old
+    ensures broken { IfErr result (λ t. MayBreak None task.entry keyset.now job.now.aad.now draws.old
         (unread input.old.trims input.old.held (Y.Input.left input.old.source)) (K.got sink.old) (K.got sink.new) (trouble_status t)) }
+    ensures cause { IfErr result (λ t. MayEnd task.entry keyset.now job.now.aad.now draws.old
+        (unread input.old.trims input.old.held (Y.Input.left input.old.source)) (trouble_status t)) }
     ensures still { system.new ≡ system.old }
     ensures sink { K.same sink.old sink.new }
 {
-    let answer = write_task(alloc, task, keyset, job.aad, draws, input, sink);
+    let answer = write_fitting(alloc, task, keyset, job.aad, draws, input, sink);
     ended(system, answer, &input.source, job, WRITE_FAULT)
 }
 
@@ -210,7 +213,7 @@ fn put_to_stream<'w, Y: System>(
 {
     match system.open_stream(output) {
         Ok(mut stream) => {
-            let answer = write_task(alloc, task, keyset, job.aad, draws, input, &mut stream);
+            let answer = write_fitting(alloc, task, keyset, job.aad, draws, input, &mut stream);
             let reason = system.reason_of_stream(&stream);
             ended(system, answer, &input.source, job, reason)
         }
@@ -272,7 +275,7 @@ fn put_to_draft<'w, Y: System>(
     ensures random { (Y.state system.new).random ≡ (Y.state system.old).random }
     ensures later { Y.faults system.old ≤ Y.faults system.new }
 {
-    let answer = save_task(alloc, task, keyset, job.aad, draws, input, &mut draft);
+    let answer = save_fitting(alloc, task, keyset, job.aad, draws, input, &mut draft);
     let reason = system.reason_of_draft(&draft);
     match system.settle(alloc, output, draft) {
         Ok(()) => ended(system, answer, &input.source, job, reason),

@@ -3,8 +3,7 @@ use Rattle.std.specs.Prelude.{Some}
 use Rattle.tink_cli_jobs.proofs.OutputLemmas.{put_in_file, put_out}
 use Rattle.tink_cli_streams.specs.Performing.{Makes}
 use Rattle.tink_cli_streams.specs.Trimming.{unread}
-use Rattle.tink_cli_streams.proofs.BreakingLemmas.{may_break, quiet}
-use Rattle.tink_cli_streams.proofs.CauseLemmas.{written_ends}
+use Rattle.tink_cli_streams.proofs.BreakingLemmas.{quiet}
 use Rattle.tink_cli_streams.proofs.performing.perform_on.Goals as goal
 
 pub returns-in-None-clause-done : goal.returns-in-None-clause-done
@@ -20,13 +19,9 @@ returns-in-Some-clause-done g c =
 
 pub returns-in-None-clause-broken : goal.returns-in-None-clause-broken
 returns-in-None-clause-broken g c =
-    rw c.in-None.is (may_break c.args.task c.args.keyset.now c.args.job.now.aad.now c.args.draws.now _ _ _ c.put.result c.put.ensures.broken)
+    rw c.in-None.is c.put.ensures.broken
 
 pub returns-in-Some-clause-broken : goal.returns-in-Some-clause-broken
 returns-in-Some-clause-broken g c =
     rw c.in-Some.is (quiet c.in-Some.output.now c.args.task c.args.keyset.now c.args.job.now.aad.now c.args.draws.now
     (unread c.args.input.now.trims c.args.input.now.held (g.Y.Input.Source.left c.args.input.now.source)) (g.K.Sink.got c.args.sink.now) c.put_to.result)
-
-pub returns-in-None-clause-cause : goal.returns-in-None-clause-cause
-returns-in-None-clause-cause g c =
-    written_ends c.args.task c.args.keyset.now c.args.job.now.aad.now c.args.draws.now _ _ _ c.put.result c.put.ensures.broken
