@@ -117,14 +117,18 @@ pub fn save_task<S: Source, P: Place>(
     ensures succeeds { (T G : List ℕ)
         → Told (outside_of S.left S.faults P.got P.faults source.old place.old) T G
         → CanDo task.entry keyset.now aad.now draws.old T
-        → Succeeds (S.faults source.old) (S.faults source.new) (P.faults place.old) (P.faults place.new) result }
+        → Succeeds (S.faults source.old) (S.faults source.new) (P.faults place.old) (P.faults place.new)
+        result }
     ensures err { OnErr result (P.shown place.new ≡ P.shown place.old) }
-    ensures gone { P.has_draft place.new ≡ false }
-    ensures place { P.rest place.old place.new }
     ensures unread { IfErr result (λ e. IsBeforeReading task.entry e.kind → source.new ≡ source.old) }
-    ensures later { FaultsStay (outside_of S.left S.faults P.got P.faults source.old place.old)
-        (outside_of S.left S.faults P.got P.faults source.new place.new) }
-    ensures source { S.same source.old source.new }
+
+    // Whatever the answer, no draft is left, and the rest of the place stays.
+    ensures place { (P.has_draft place.new ≡ false) × P.rest place.old place.new }
+
+    // Whatever the answer, no count of faults fell, and what calls keep of the source is kept.
+    ensures stays { FaultsStay (outside_of S.left S.faults P.got P.faults source.old place.old)
+        (outside_of S.left S.faults P.got P.faults source.new place.new)
+        × S.same source.old source.new }
 {
     let answer = write_task(alloc, task, keyset, aad, draws, source, place);
     finish(place, answer)

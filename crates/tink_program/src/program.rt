@@ -65,9 +65,9 @@ pub fn program<S: Source, K: Sink, E: Sink>(
 
     // A status of 0 leaves the sink of faults itself as it was.
     ensures quiet { result ≡ 0 → faults.new ≡ faults.old }
-    ensures source { S.same source.old source.new }
-    ensures sink { K.same sink.old sink.new }
-    ensures faults { E.same faults.old faults.new }
+
+    // Whatever the status, what calls keep of the source and of both sinks is kept.
+    ensures same { S.same source.old source.new × K.same sink.old sink.new × E.same faults.old faults.new }
 {
     let outcome = command(alloc, words, source, sink);
     tell(faults, outcome);

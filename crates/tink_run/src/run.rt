@@ -74,10 +74,11 @@ pub fn run<S: Source, K: Sink>(
     // `NoMatchingKey` the sink.
     ensures early { LeavesEnds result source.old source.new sink.old sink.new }
     ensures unwritten { LeavesSinkItself result sink.old sink.new }
-    ensures later { FaultsStay (outside_of S.left S.faults K.got K.faults source.old sink.old)
-        (outside_of S.left S.faults K.got K.faults source.new sink.new) }
-    ensures source { S.same source.old source.new }
-    ensures sink { K.same sink.old sink.new }
+
+    // Whatever the answer, no count of faults fell, and what calls keep of both ends is kept.
+    ensures stays { FaultsStay (outside_of S.left S.faults K.got K.faults source.old sink.old)
+        (outside_of S.left S.faults K.got K.faults source.new sink.new)
+        × S.same source.old source.new × K.same sink.old sink.new }
 {
     answer(alloc, command, keyset, aad, draws, source, sink)
 }

@@ -84,16 +84,15 @@ pub fn start<S: Source, T: DerivesStreams>(
         (segment_map r.opener) r.opener.first r.opener.size r.opener.overhead)) }
     ensures refused { IfErr result (λ e. StartRefused (map (λ k. opening_key aad.now (T.key_of k)) keys.now)
         (kept_rest S.left trial.kept source.old) (S.faults source.old) (S.faults source.new) e.kind) }
-    ensures read { LosesAtMost (vec_len trial.kept.buffer - trial.kept.filled) (S.left source.old) (S.left source.new) }
     // what the reader still lacks of the first segment and of a byte behind it has room too
-    ensures near { IfOk result (λ r. LosesAtMost (vec_len trial.kept.buffer - trial.kept.filled - reader_lacks r)
-        (S.left source.old) (S.left source.new)) }
+    ensures read { LosesAtMost (vec_len trial.kept.buffer - trial.kept.filled) (S.left source.old)
+        (S.left source.new) × IfOk result (λ r. LosesAtMost (vec_len trial.kept.buffer - trial.kept.filled
+        - reader_lacks r) (S.left source.old) (S.left source.new)) }
     // where the stream begins in a front of none of the keys, but for those from whose headers no keys are derived
     ensures further { IfSome (kept_rest S.left trial.kept source.old) (ReadsFronts
         (map (λ k. opening_key aad.now (T.key_of k)) keys.now) trial.kept.filled
         (S.left source.old) (S.left source.new)) }
-    ensures later { S.faults source.old ≤ S.faults source.new }
-    ensures same { S.same source.old source.new }
+    ensures stays { (S.faults source.old ≤ S.faults source.new) × S.same source.old source.new }
 {
     let Trial {
         mut kept,

@@ -59,15 +59,15 @@ pub fn rewrap<S: Source, K: Sink>(
         (outside_of S.left S.faults K.got K.faults source.new sink.new)
         result }
 
-    // Known bytes: the source was exactly a stream of the chosen key of the first keyset, and exactly the stream of its
-    // text under the second one's primary key was written.
+    // Known bytes: the source was exactly a stream of the chosen key of the first keyset, and exactly the stream of
+    // its text under the second one's primary key was written.
     ensures rewrapped { IfOk result (λ report. (X G : List ℕ)
         → Told (outside_of S.left S.faults K.got K.faults source.old sink.old) X G
         → IsWholeRewrap (sides from.now from_aad.now to.now to_aad.now)
         draws.old draws.new X G (outside_of S.left S.faults K.got K.faults source.new sink.new) report) }
 
-    // Known bytes: where the source is no stream of the chosen key, or the answer is another refusal than WriteFault, no
-    // last segment was written.
+    // Known bytes: where the source is no stream of the chosen key, or the answer is another refusal than
+    // WriteFault, no last segment was written.
     ensures unended { LeavesUnended
         (sides from.now from_aad.now to.now to_aad.now)
         draws.old
@@ -90,18 +90,19 @@ pub fn rewrap<S: Source, K: Sink>(
         (outside_of S.left S.faults K.got K.faults source.new sink.new)
         result }
 
-    // A refusal that comes before anything was read or written leaves the ends themselves as they were, and each that
-    // comes before a key was chosen the sink, `NoMatchingKey` among them.
+    // An error that comes before anything was read or written leaves the ends themselves as they were.
     ensures early { LeavesEnds result source.old source.new sink.old sink.new }
-    ensures unwritten { LeavesSinkItself result sink.old sink.new }
-    ensures begun { LeavesOrBeginsOf
-        (sides from.now from_aad.now to.now to_aad.now)
-        (outside_of S.left S.faults K.got K.faults source.old sink.old)
-        result sink.old sink.new }
-    ensures later { FaultsStay (outside_of S.left S.faults K.got K.faults source.old sink.old)
-        (outside_of S.left S.faults K.got K.faults source.new sink.new) }
-    ensures source { S.same source.old source.new }
-    ensures sink { K.same sink.old sink.new }
+
+    // One that comes before a key was chosen leaves the sink itself as it was, `NoMatchingKey` among them. After
+    // another error a key was chosen, or the sink itself is as it was.
+    ensures unwritten { LeavesSinkItself result sink.old sink.new
+        × LeavesOrBeginsOf (sides from.now from_aad.now to.now to_aad.now)
+        (outside_of S.left S.faults K.got K.faults source.old sink.old) result sink.old sink.new }
+
+    // Whatever the answer, no count of faults fell, and what calls keep of both ends is kept.
+    ensures stays { FaultsStay (outside_of S.left S.faults K.got K.faults source.old sink.old)
+        (outside_of S.left S.faults K.got K.faults source.new sink.new)
+        × S.same source.old source.new × K.same sink.old sink.new }
 {
     answer(alloc, from, from_aad, to, to_aad, draws, source, sink)
 }

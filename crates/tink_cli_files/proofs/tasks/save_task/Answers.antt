@@ -28,12 +28,10 @@ pub returns-clause-unread : goal.returns-clause-unread
 returns-clause-unread g c =
     unread_ended c.args.task c.args.source.now c.write_task-answer.new.source _ _ _ _ _ _ c.write_task-answer.result c.finish.result c.finish.ensures.ends c.write_task-answer.ensures.unread
 
-pub returns-clause-later : goal.returns-clause-later
-returns-clause-later g c = record {
-  reads = c.write_task-answer.ensures.later.reads;
-  writes = le_trans c.write_task-answer.ensures.later.writes c.finish.ensures.later;
-}
+pub returns-clause-stays : goal.returns-clause-stays
+returns-clause-stays g c =
+    (record { reads = c.write_task-answer.ensures.later.reads; writes = le_trans c.write_task-answer.ensures.later.writes c.finish.ensures.later }, c.write_task-answer.ensures.source)
 
 pub returns-clause-place : goal.returns-clause-place
 returns-clause-place g c =
-    g.met.P.Place.rest_trans _ _ _ (g.met.P.Place.same_rest c.args.place.now c.write_task-answer.new.sink c.write_task-answer.ensures.sink) c.finish.ensures.rest
+    (c.finish.ensures.gone, g.met.P.Place.rest_trans _ _ _ (g.met.P.Place.same_rest c.args.place.now c.write_task-answer.new.sink c.write_task-answer.ensures.sink) c.finish.ensures.rest)

@@ -26,7 +26,7 @@ pub returns-in-Run-clause-begun : goal.returns-in-Run-clause-begun
 returns-in-Run-clause-begun g c = rw (c.in-Run.is, c.reported.ensures) (no_move _ c.run.result)
 
 pub returns-in-Run-clause-later : goal.returns-in-Run-clause-later
-returns-in-Run-clause-later g c = c.run.ensures.later
+returns-in-Run-clause-later g c = c.run.ensures.stays.0
 
 pub returns-in-Rewrap-clause-means : goal.returns-in-Rewrap-clause-means
 returns-in-Rewrap-clause-means g c = rw (c.in-Rewrap.is, c.reported-in-Rewrap.ensures) (rewrap_said _ _ _ _ _ c.rewrap.result c.rewrap.ensures.answer c.rewrap.ensures.read)
@@ -42,16 +42,16 @@ pub returns-in-Rewrap-clause-unread : goal.returns-in-Rewrap-clause-unread
 returns-in-Rewrap-clause-unread g c = rw (c.in-Rewrap.is, c.reported-in-Rewrap.ensures) (run_unread c.rewrap.result c.args.source.now c.rewrap.new.source c.args.sink.now c.rewrap.new.sink c.rewrap.ensures.early)
 
 pub returns-in-Rewrap-clause-unwritten : goal.returns-in-Rewrap-clause-unwritten
-returns-in-Rewrap-clause-unwritten g c = rw (c.in-Rewrap.is, c.reported-in-Rewrap.ensures) (run_unwritten c.rewrap.result c.args.sink.now c.rewrap.new.sink c.rewrap.ensures.unwritten)
+returns-in-Rewrap-clause-unwritten g c = rw (c.in-Rewrap.is, c.reported-in-Rewrap.ensures) (run_unwritten c.rewrap.result c.args.sink.now c.rewrap.new.sink c.rewrap.ensures.unwritten.0)
 
 pub returns-in-Rewrap-clause-begun : goal.returns-in-Rewrap-clause-begun
 returns-in-Rewrap-clause-begun g c =
     let old : Outside = outside_of g.S.Source.left g.S.Source.faults g.K.Sink.got g.K.Sink.faults c.args.source.now c.args.sink.now in
     rw (c.in-Rewrap.is, c.reported-in-Rewrap.ensures)
-    (rewrap_begun (sides c.args.keyset.now c.args.aad.now c.in-Rewrap.to.now c.in-Rewrap.to_aad.now) old c.rewrap.result c.args.sink.now c.rewrap.new.sink c.rewrap.ensures.begun)
+    (rewrap_begun (sides c.args.keyset.now c.args.aad.now c.in-Rewrap.to.now c.in-Rewrap.to_aad.now) old c.rewrap.result c.args.sink.now c.rewrap.new.sink c.rewrap.ensures.unwritten.1)
 
 pub returns-in-Rewrap-clause-later : goal.returns-in-Rewrap-clause-later
-returns-in-Rewrap-clause-later g c = c.rewrap.ensures.later
+returns-in-Rewrap-clause-later g c = c.rewrap.ensures.stays.0
 
 pub returns-in-Sign-clause-means : goal.returns-in-Sign-clause-means
 returns-in-Sign-clause-means g c = rw (c.in-Sign.is, c.unreported.ensures) (token_said SignsTo RefusesSigning _ _ _ _ c.write_token.result c.write_token.ensures.answer c.write_token.ensures.taken)

@@ -25,5 +25,5 @@ returns-clause-remains c =
     let begins = subst (λ (k : StreamKey). Started (opening_key [] k ∷ []) S rest (segment_map o) o.first o.size o.overhead) c.requires.key
     (subst (λ (f : ℕ). Started (opening_key [] c.args.key.now ∷ []) (take f kept ++ S) rest (segment_map o) o.first o.size o.overhead) c.requires.filled c.in-Ok.ensures.started)
     in
-    subst (λ (n : ℕ). AllRemains (segment_map o) o.first o.size 0 rest 0 n) (sym c.start.ensures.same.number)
+    subst (λ (n : ℕ). AllRemains (segment_map o) o.first o.size 0 rest 0 n) (sym c.start.ensures.stays.1.number)
     (started c.args.source.now.n S rest (segment_map o) o.first o.size o.overhead c.requires.stream c.requires.number begins).remains

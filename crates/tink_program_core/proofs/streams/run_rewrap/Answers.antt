@@ -25,3 +25,6 @@ returns-clause-moved g c =
       unended = c.rewrap.ensures.unended;
       succeeds = c.rewrap.ensures.succeeds;
     })
+
+pub returns-clause-ends : goal.returns-clause-ends
+returns-clause-ends g c = record { early = c.rewrap.ensures.early; unwritten = c.rewrap.ensures.unwritten.0 }

@@ -17,11 +17,11 @@ returns-in_err-reader g c = record {
       let kept = c.args.trial.kept in
       let none_held = unread kept.filled kept.buffer.items (g.S.Source.left c.args.source.now) c.requires.filled in
       let refused = rw none_held at c.in_err-reader.ensures.refused in
-      rw (p.1, p.2) (start_refused _ _ _ _ (Keeps-refl _) refused, start_reads _ _ _ _ _ (Keeps-refl _) (reads_more _ _ _ _ (omega arith) c.start.ensures.read) refused));
+      rw (p.1, p.2) (start_refused _ _ _ _ (Keeps-refl _) refused, start_reads _ _ _ _ _ (Keeps-refl _) (reads_more _ _ _ _ (omega arith) c.start.ensures.read.0) refused));
   unwritten = (let p = err_from_is_err_and c.from_residual.result c.from_residual.ensures.1 in
       rw (p.1, p.2) (λ _. refl));
-  later = record { reads = c.in_err-reader.ensures.later; writes = le_refl _ };
-  source = c.in_err-reader.ensures.same;
+  later = record { reads = c.in_err-reader.ensures.stays.0; writes = le_refl _ };
+  source = c.in_err-reader.ensures.stays.1;
   sink = g.met.K.Sink.same_refl _;
 }
 
@@ -36,11 +36,11 @@ returns g c = record {
       let begun = rw none_held at c.in_ok-reader.ensures.started in (
         means_under _ seg opener.first opener.size opener.overhead _ started _ _ opener.some
             (numbered_longer (segment_by opener.decrypter) opener.nonce_size opener.prefix.items opener.overhead (λ n t. length-segment_by opener.decrypter n t ∙ ap (λ x. length t + x) (sym opener.overhead_is)))
-            refl c.start.ensures.later (le_refl _) begun c.open_stream.ensures.answer,
+            refl c.start.ensures.stays.0 (le_refl _) begun c.open_stream.ensures.answer,
         reads_under _ _ seg opener.first opener.size opener.overhead _ started _ refl begun _ c.open_stream.ensures.answer (rw c.in_ok-reader.ensures.fresh.3 at c.open_stream.ensures.read),
       ));
   unwritten = c.open_stream.ensures.unwritten;
-  later = record { reads = omega (arith, c.in_ok-reader.ensures.later, c.open_stream.ensures.later.reads); writes = c.open_stream.ensures.later.writes };
-  source = g.met.S.Source.same_trans _ _ _ c.in_ok-reader.ensures.same c.open_stream.ensures.source;
+  later = record { reads = omega (arith, c.in_ok-reader.ensures.stays.0, c.open_stream.ensures.later.reads); writes = c.open_stream.ensures.later.writes };
+  source = g.met.S.Source.same_trans _ _ _ c.in_ok-reader.ensures.stays.1 c.open_stream.ensures.source;
   sink = c.open_stream.ensures.sink;
 }

@@ -10,7 +10,5 @@ returns g c = record {
   read = c.answer.ensures.read;
   early = c.answer.ensures.early;
   unwritten = c.answer.ensures.unwritten;
-  later = c.answer.ensures.later;
-  source = c.answer.ensures.source;
-  sink = c.answer.ensures.sink;
+  stays = (c.answer.ensures.later, c.answer.ensures.source, c.answer.ensures.sink);
 }

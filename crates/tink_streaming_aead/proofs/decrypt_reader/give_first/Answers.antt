@@ -53,18 +53,18 @@ returns g c =
     record {
       answer = (
         c.in-Err.ensures.answer.0,
-        rw (c.new.ensures, c.first_refusal.ensures) (first_refused _ (g.S.Source.left c.args.source.now) m.rest seg o.first o.size o.overhead (g.S.Source.faults c.args.source.now) m.faults (length c.args.buf.now) n kind (rw keys at started) c.start.ensures.later
+        rw (c.new.ensures, c.first_refusal.ensures) (first_refused _ (g.S.Source.left c.args.source.now) m.rest seg o.first o.size o.overhead (g.S.Source.faults c.args.source.now) m.faults (length c.args.buf.now) n kind (rw keys at started) c.start.ensures.stays.0
             (fresh_refused seg o.first o.size o.overhead m n (length c.args.buf.now) kind fresh.0 fresh.1 fresh.2 refused)),
       );
       within = tt;
       room = tt;
       memory = tt;
       read = reads_near (vec_len choice.trial.kept.buffer) choice.trial.kept.filled reader (g.S.Source.left c.args.source.now) (g.S.Source.left c.start.new.source) (g.S.Source.left c.read.new.source) fresh.1 fresh.3
-          c.in_ok-reader.ensures.near c.read.ensures.read;
+          c.in_ok-reader.ensures.read.1 c.read.ensures.read;
       fronts = started_fronts _ (g.S.Source.left c.args.source.now) m.rest (g.S.Source.left c.args.source.now) (g.S.Source.left c.read.new.source) seg o.first o.size o.overhead (rw keys at started);
       at_end = tt;
-      later = omega (arith, c.start.ensures.later, c.read.ensures.later);
-      same = g.met.S.Source.same_trans _ _ _ c.start.ensures.same c.read.ensures.same;
+      later = omega (arith, c.start.ensures.stays.0, c.read.ensures.later);
+      same = g.met.S.Source.same_trans _ _ _ c.start.ensures.stays.1 c.read.ensures.same;
     }
 
 pub returns-in_err-reader-clause-within : goal.returns-in_err-reader-clause-within
@@ -80,13 +80,13 @@ pub returns-in_err-reader-clause-at_end : goal.returns-in_err-reader-clause-at_e
 returns-in_err-reader-clause-at_end g c = let p = err_from_is_err_and c.from_residual.result c.from_residual.ensures.1 in rw p.1 tt
 
 pub returns-in_err-reader-clause-read : goal.returns-in_err-reader-clause-read
-returns-in_err-reader-clause-read g c = reads_more _ _ (g.S.Source.left c.args.source.now) (g.S.Source.left c.start.new.source) (omega arith) c.start.ensures.read
+returns-in_err-reader-clause-read g c = reads_more _ _ (g.S.Source.left c.args.source.now) (g.S.Source.left c.start.new.source) (omega arith) c.start.ensures.read.0
 
 pub returns-in_err-reader-clause-later : goal.returns-in_err-reader-clause-later
-returns-in_err-reader-clause-later g c = c.in_err-reader.ensures.later
+returns-in_err-reader-clause-later g c = c.in_err-reader.ensures.stays.0
 
 pub returns-in_err-reader-clause-same : goal.returns-in_err-reader-clause-same
-returns-in_err-reader-clause-same g c = c.in_err-reader.ensures.same
+returns-in_err-reader-clause-same g c = c.in_err-reader.ensures.stays.1
 
 pub returns-in-Ok-clause-within : goal.returns-in-Ok-clause-within
 returns-in-Ok-clause-within g c = c.in-Ok.ensures.within
@@ -102,16 +102,16 @@ returns-in-Ok-clause-read g c =
     let kept = c.args.choice.trial.kept in
     let fresh = c.in_ok-reader.ensures.fresh in
     reads_near (vec_len kept.buffer) kept.filled c.in_ok-reader.reader (g.S.Source.left c.args.source.now) (g.S.Source.left c.start.new.source) (g.S.Source.left c.read.new.source) fresh.1 fresh.3
-    c.in_ok-reader.ensures.near c.read.ensures.read
+    c.in_ok-reader.ensures.read.1 c.read.ensures.read
 
 pub returns-in-Ok-clause-at_end : goal.returns-in-Ok-clause-at_end
 returns-in-Ok-clause-at_end g c = c.read.ensures.at_end
 
 pub returns-in-Ok-clause-later : goal.returns-in-Ok-clause-later
-returns-in-Ok-clause-later g c = omega (arith, c.start.ensures.later, c.read.ensures.later)
+returns-in-Ok-clause-later g c = omega (arith, c.start.ensures.stays.0, c.read.ensures.later)
 
 pub returns-in-Ok-clause-same : goal.returns-in-Ok-clause-same
-returns-in-Ok-clause-same g c = g.met.S.Source.same_trans _ _ _ c.start.ensures.same c.read.ensures.same
+returns-in-Ok-clause-same g c = g.met.S.Source.same_trans _ _ _ c.start.ensures.stays.1 c.read.ensures.same
 
 pub returns-in-Ok-clause-fronts : goal.returns-in-Ok-clause-fronts
 returns-in-Ok-clause-fronts g c = tt

@@ -18,7 +18,7 @@ pub returns-in-Err-clause-refused : goal.returns-in-Err-clause-refused
 returns-in-Err-clause-refused g c = rw c.new.ensures c.in-Err.ensures.failed.rose
 
 pub returns-in-Ok-None-clause-read : goal.returns-in-Ok-None-clause-read
-returns-in-Ok-None-clause-read g c = c.choose.ensures.read
+returns-in-Ok-None-clause-read g c = (c.choose.ensures.read, tt)
 
 pub returns-in-Ok-Some-clause-fresh : goal.returns-in-Ok-Some-clause-fresh
 returns-in-Ok-Some-clause-fresh g c = (c.made.ensures.progress, c.made.ensures.segments, c.made.ensures.opened, c.made.ensures.room ∙ c.carry.ensures.len ∙ c.choose.ensures.room.len)
@@ -27,49 +27,7 @@ pub returns-in-Ok-Some-clause-refused : goal.returns-in-Ok-Some-clause-refused
 returns-in-Ok-Some-clause-refused g c = tt
 
 pub returns-in-Ok-Some-clause-read : goal.returns-in-Ok-Some-clause-read
-returns-in-Ok-Some-clause-read g c = c.choose.ensures.read
-
-pub returns-in-Ok-Some-clause-later : goal.returns-in-Ok-Some-clause-later
-returns-in-Ok-Some-clause-later g c = c.choose.ensures.later
-
-pub returns-in-Ok-Some-clause-same : goal.returns-in-Ok-Some-clause-same
-returns-in-Ok-Some-clause-same g c = c.choose.ensures.same
-
-pub returns-in-Err-clause-fresh : goal.returns-in-Err-clause-fresh
-returns-in-Err-clause-fresh g c = tt
-
-pub returns-in-Err-clause-memory : goal.returns-in-Err-clause-memory
-returns-in-Err-clause-memory g c = tt
-
-pub returns-in-Err-clause-started : goal.returns-in-Err-clause-started
-returns-in-Err-clause-started g c = tt
-
-pub returns-in-Err-clause-read : goal.returns-in-Err-clause-read
-returns-in-Err-clause-read g c = c.choose.ensures.read
-
-pub returns-in-Err-clause-later : goal.returns-in-Err-clause-later
-returns-in-Err-clause-later g c = c.choose.ensures.later
-
-pub returns-in-Err-clause-same : goal.returns-in-Err-clause-same
-returns-in-Err-clause-same g c = c.choose.ensures.same
-
-pub returns-in-Ok-None-clause-fresh : goal.returns-in-Ok-None-clause-fresh
-returns-in-Ok-None-clause-fresh g c = tt
-
-pub returns-in-Ok-None-clause-memory : goal.returns-in-Ok-None-clause-memory
-returns-in-Ok-None-clause-memory g c = tt
-
-pub returns-in-Ok-None-clause-started : goal.returns-in-Ok-None-clause-started
-returns-in-Ok-None-clause-started g c = tt
-
-pub returns-in-Ok-None-clause-later : goal.returns-in-Ok-None-clause-later
-returns-in-Ok-None-clause-later g c = c.choose.ensures.later
-
-pub returns-in-Ok-None-clause-same : goal.returns-in-Ok-None-clause-same
-returns-in-Ok-None-clause-same g c = c.choose.ensures.same
-
-pub returns-in-Ok-Some-clause-near : goal.returns-in-Ok-Some-clause-near
-returns-in-Ok-Some-clause-near g c =
+returns-in-Ok-Some-clause-read g c =
     let begun = c.in-Ok-Some.field-0-0 in
     let o = begun.opener in
     let old = c.args.trial.kept in
@@ -83,13 +41,37 @@ returns-in-Ok-Some-clause-near g c =
     let lacks : reader_lacks r ≡ o.first + 1 - (kept.filled - begun.front) =
     ap (λ p. room_at p.first p.size r.segments + 1 - length (held_bytes r)) made.opener ∙ ap (λ n. room_at o.first o.size n + 1 - length (held_bytes r)) made.segments ∙ ap (λ n. o.first + 1 - n) held in
     let wanted = wanted_fits (vec_len old.buffer) old.filled kept.filled begun.front o.first room.more chosen.front (omega (arith, kept.filled_in, room.len)) (omega (arith, chosen.near, room.len)) in
-    read_by g.S.Source.left _ old kept c.args.source.now c.choose.new.source chosen.rest room.more (omega (arith, wanted, lacks))
+    (c.choose.ensures.read, read_by g.S.Source.left _ old kept c.args.source.now c.choose.new.source chosen.rest room.more (omega (arith, wanted, lacks)))
 
-pub returns-in-Err-clause-near : goal.returns-in-Err-clause-near
-returns-in-Err-clause-near g c = tt
+pub returns-in-Ok-Some-clause-stays : goal.returns-in-Ok-Some-clause-stays
+returns-in-Ok-Some-clause-stays g c = (c.choose.ensures.later, c.choose.ensures.same)
 
-pub returns-in-Ok-None-clause-near : goal.returns-in-Ok-None-clause-near
-returns-in-Ok-None-clause-near g c = tt
+pub returns-in-Err-clause-fresh : goal.returns-in-Err-clause-fresh
+returns-in-Err-clause-fresh g c = tt
+
+pub returns-in-Err-clause-memory : goal.returns-in-Err-clause-memory
+returns-in-Err-clause-memory g c = tt
+
+pub returns-in-Err-clause-started : goal.returns-in-Err-clause-started
+returns-in-Err-clause-started g c = tt
+
+pub returns-in-Err-clause-read : goal.returns-in-Err-clause-read
+returns-in-Err-clause-read g c = (c.choose.ensures.read, tt)
+
+pub returns-in-Err-clause-stays : goal.returns-in-Err-clause-stays
+returns-in-Err-clause-stays g c = (c.choose.ensures.later, c.choose.ensures.same)
+
+pub returns-in-Ok-None-clause-fresh : goal.returns-in-Ok-None-clause-fresh
+returns-in-Ok-None-clause-fresh g c = tt
+
+pub returns-in-Ok-None-clause-memory : goal.returns-in-Ok-None-clause-memory
+returns-in-Ok-None-clause-memory g c = tt
+
+pub returns-in-Ok-None-clause-started : goal.returns-in-Ok-None-clause-started
+returns-in-Ok-None-clause-started g c = tt
+
+pub returns-in-Ok-None-clause-stays : goal.returns-in-Ok-None-clause-stays
+returns-in-Ok-None-clause-stays g c = (c.choose.ensures.later, c.choose.ensures.same)
 
 pub returns-in-Ok-Some-clause-further : goal.returns-in-Ok-Some-clause-further
 returns-in-Ok-Some-clause-further g c = c.choose.ensures.further

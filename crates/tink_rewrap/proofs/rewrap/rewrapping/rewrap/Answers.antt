@@ -15,9 +15,6 @@ returns g c = record {
   read = (let s : Sides = record { from = c.args.from.now; from_aad = c.args.from_aad.now; to = c.args.to.now; to_aad = c.args.to_aad.now } in
       reads_no_further s c.args.draws.now c.answer.new.draws _ _ c.answer.result c.answer.ensures.answer);
   early = c.answer.ensures.early;
-  unwritten = c.answer.ensures.unwritten;
-  begun = c.answer.ensures.begun;
-  later = c.answer.ensures.later;
-  source = c.answer.ensures.source;
-  sink = c.answer.ensures.sink;
+  unwritten = (c.answer.ensures.unwritten, c.answer.ensures.begun);
+  stays = (c.answer.ensures.later, c.answer.ensures.source, c.answer.ensures.sink);
 }
