@@ -84,8 +84,8 @@ pub fn write_task<S: Source, K: Sink>(
     }
 }
 
-/// Writes what a task makes of a source's bytes into a draft, which is shown where all of it was done, and else taken
-/// away.
+/// Writes what a task makes of a source's bytes into a draft, which is shown where all of it was done, and
+/// else taken away.
 ///
 /// # Errors
 /// Those of `write_task`, and `WriteFault` where the draft could not be shown: what was shown stays.

@@ -1,5 +1,5 @@
 -- What reading a range says.
-use Rattle.std.specs.Prelude.{◌≡◌, ◌⊎◌, ◌↔◌, ℕ, ◌+◌, ◌^◌, ◌<◌, ◌≤◌, min, true, List, [], length, Some, IfSome, IsOk, Result, Ok, Err}
+use Rattle.std.specs.Prelude.{◌≡◌, ◌⊎◌, ◌↔◌, ℕ, ◌+◌, ◌-◌, ◌/◌, ◌^◌, ◌<◌, ◌≤◌, min, true, List, [], length, Some, IfSome, IsOk, Result, Ok, Err}
 use Rattle.std.specs.declared.option.Option.{Option}
 use Rattle.tink_io.specs.Faults.{Rose}
 use Rattle.tink_io.specs.declared.error.Kind.{Kind}
@@ -42,6 +42,11 @@ range_start c behind start = min start (text_length c.first c.size c.over behind
 
 abbrev pub range_end : Cutting → ℕ → ℕ → ℕ → ℕ
 range_end c behind start len = min (start + len) (text_length c.first c.size c.over behind)
+
+-- two chunks more than the text of the range fills
+abbrev pub most_chunks : Cutting → ℕ → ℕ → ℕ → ℕ
+most_chunks c behind start len =
+    (range_end c behind start len - range_start c behind start + (c.size - c.over) - 1) / (c.size - c.over) + 2
 
 module _ {W : Type 0} (got : W → Option (List ℕ)) (faults : W → ℕ) (c : Cutting) (behind start len : ℕ) (e : Moments W) where
   -- the last chunk is the segment of a text

@@ -7,7 +7,7 @@ ghost use Rattle.tink_range.specs.ChoosingAt.{NewRefused, Tries};
 ghost use Rattle.tink_range.specs.ChunkReading.{ends_of};
 ghost use Rattle.tink_range.specs.Objects.{LeavesObject};
 ghost use Rattle.tink_range.specs.RangeReaders.{answer_of, cut_by, object_of};
-ghost use Rattle.tink_range.specs.RangeReading.{IsGivenExactly, RangeMeans, range_end, range_start};
+ghost use Rattle.tink_range.specs.RangeReading.{IsGivenExactly, RangeMeans, most_chunks, range_end, range_start};
 ghost use Rattle.tink_range.specs.Ranges.{text_length};
 ghost use Rattle.tink_range.specs.StepCounts.{TakesTouched};
 ghost use Rattle.tink_streaming_aead.specs.DecryptReaders.{largest};
@@ -96,19 +96,20 @@ impl<A: ReadAt> RangeReader<A> {
         self.core.text_len()
     }
 
-    /// Writes the bytes of the text from place `start` on and below `start + len`, as far as there are such, and
-    /// answers how many. If the answer is Ok, it took one step for each chunk that the range touches, and one for the
-    /// last chunk of the stream. Whatever the answer, it took at most two more than the chunks that the range's own
-    /// length fills. The reader is then as before but for the object, and keeps the memory that it has.
+    /// Writes the bytes of the text from place `start` on and below `start + len`, as far as there are such,
+    /// and answers how many. If the answer is Ok, it took one step for each chunk that the range touches, and
+    /// one for the last chunk of the stream. Whatever the answer, it took at most two more than the chunks
+    /// that the range's own length fills. The reader is then as before but for the object, and keeps the
+    /// memory that it has.
     ///
     /// # Errors
-    /// - `ReadFault` or `WriteFault` if the object or the sink failed. A prefix is then written of what some touched
-    ///   chunks give.
+    /// - `ReadFault` or `WriteFault` if the object or the sink failed. A prefix is then written of what some
+    ///   touched chunks give.
     /// - `TooManySegments` exactly if there are more than 2^32 chunks. Nothing is written then.
     /// - If the last chunk is the segment of no text, `Truncated` if it is shorter than any segment, and else
     ///   `BadSegment`. Nothing is written then.
-    /// - `BadSegment` of the first touched chunk that is the segment of no text. The range's bytes before it are
-    ///   written then.
+    /// - `BadSegment` of the first touched chunk that is the segment of no text. The range's bytes before it
+    ///   are written then.
     pub fn read_range<K: Sink, L: Ledger>(
         &mut self,
         start: u64,
@@ -121,24 +122,17 @@ impl<A: ReadAt> RangeReader<A> {
         // Known bytes: where neither count rose, the answer is Ok exactly where the range can be given.
         ensures given { IsGivenExactly K.faults (cut_by self.old) self.old.behind start len
             (ends_of A.bytes A.faults self.old.object self.new.object sink.old sink.new) result }
-        ensures ticks { steps.new ≤ steps.old + (range_end (cut_by self.old) self.old.behind start len
-            - range_start (cut_by self.old) self.old.behind start + (self.old.opening.size
-            - self.old.opening.overhead) - 1) / (self.old.opening.size - self.old.opening.overhead) + 2 }
-        ensures touched { TakesTouched (cut_by self.old) (range_start (cut_by self.old) self.old.behind start)
+        ensures ticks { (steps.new ≤ steps.old + most_chunks (cut_by self.old) self.old.behind start len)
+            × TakesTouched (cut_by self.old) (range_start (cut_by self.old) self.old.behind start)
             (range_end (cut_by self.old) self.old.behind start len) 1 steps.old steps.new result }
         ensures taken { A.taken self.new.object ≤ A.taken self.old.object
-            + ((range_end (cut_by self.old) self.old.behind start len
-            - range_start (cut_by self.old) self.old.behind start + (self.old.opening.size
-            - self.old.opening.overhead) - 1) / (self.old.opening.size - self.old.opening.overhead) + 2)
-            * self.old.opening.size }
+            + most_chunks (cut_by self.old) self.old.behind start len * self.old.opening.size }
         ensures opening { self.new.opening ≡ self.old.opening }
-        ensures front { self.new.front ≡ self.old.front }
-        ensures behind { self.new.behind ≡ self.old.behind }
-        ensures memory { self.new.memory ≡ self.old.memory }
+        ensures sizes { (self.new.front ≡ self.old.front) × (self.new.behind ≡ self.old.behind)
+            × (self.new.memory ≡ self.old.memory) }
         ensures kept { LeavesObject A.length_of A.bytes A.faults self.old.object self.new.object result }
-        ensures later { K.faults sink.old ≤ K.faults sink.new }
-        ensures object { A.same self.old.object self.new.object }
-        ensures sink { K.same sink.old sink.new }
+        ensures stays { A.same self.old.object self.new.object
+            × (K.faults sink.old ≤ K.faults sink.new) × K.same sink.old sink.new }
     {
         read_range(&mut self.core, &mut self.object, start, len, sink, steps)
     }

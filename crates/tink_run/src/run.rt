@@ -15,22 +15,24 @@ use tink_io::{Draws, Sink, Source, TinkError};
 use tink_sets::TypedPrimitiveSet;
 use tink_streaming_aead::StreamKind;
 
-/// Encrypts or decrypts a stream under a keyset in the wire format. The source's bytes go to the sink, encrypted under
-/// the primary key, or decrypted under the first key under which the stream begins. A seal takes its salt and the
-/// prefix of its nonces from the draws.
+/// Encrypts or decrypts a stream under a keyset in the wire format. The source's bytes go to the sink,
+/// encrypted under the primary key, or decrypted under the first key under which the stream begins. A seal
+/// takes its salt and the prefix of its nonces from the draws.
 ///
 /// # Errors
 /// The first that applies:
-/// - the refusals of loading the keyset: `BadKeyset`, `InvalidKeyset`, `UnsupportedKeyType`, `InvalidKey`, `NoPrimary`,
-///   `WrongPrimitive`;
+/// - the refusals of loading the keyset: `BadKeyset`, `InvalidKeyset`, `UnsupportedKeyType`, `InvalidKey`,
+///   `NoPrimary`, `WrongPrimitive`;
 /// - `RandomFault` of a seal for which too few draws are left; all this with nothing read, written or drawn;
-/// - `UnsupportedHash` of a seal whose key derives nothing, with the draws taken, and nothing read or written;
+/// - `UnsupportedHash` of a seal whose key derives nothing, with the draws taken, and nothing read or
+///   written;
 /// - `NoMatchingKey` of an open where the stream begins under no key, with nothing written;
-/// - `TooManySegments` if the stream has more than 2^32 segments. `Truncated` and `BadSegment` of an open if a later
-///   segment is shorter than a tag or that of no text. Of a seal the segments that are surely not the last were
-///   written, and of an open the texts of the segments before.
+/// - `TooManySegments` if the stream has more than 2^32 segments. `Truncated` and `BadSegment` of an open if
+///   a later segment is shorter than a tag or that of no text. Of a seal the segments that are surely not the
+///   last were written, and of an open the texts of the segments before.
 ///
-/// `ReadFault` and `WriteFault` come where an end failed, and `OutOfMemory` before anything was read, written or drawn.
+/// `ReadFault` and `WriteFault` come where an end failed, and `OutOfMemory` before anything was read, written
+/// or drawn.
 pub fn run<S: Source, K: Sink>(
     alloc: Global,
     command: Command,
@@ -46,8 +48,8 @@ pub fn run<S: Source, K: Sink>(
         (outside_of S.left S.faults K.got K.faults source.new sink.new)
         result }
 
-    // Known bytes: a seal has written the stream of its whole input; an open had as input a stream of the chosen key,
-    // and has written its text.
+    // Known bytes: a seal has written the stream of its whole input; an open had as input a stream of the
+    // chosen key, and has written its text.
     ensures ok { IfOk result (λ report. (T G : List ℕ)
         → Told (outside_of S.left S.faults K.got K.faults source.old sink.old) T G
         → OkMeans command keyset.now aad.now draws.old draws.new T G

@@ -80,15 +80,17 @@ pub fn law_whole_reading()
         → Gave seg first size begins.rest given n → AtEnd n → IsTextOfChosen (map (opening_key aad) keys) all given }
 {}
 
-/// A stream that was sealed with a key opens to its text. It is a stream of the key with the chunks of the text, and
-/// these joined are the text. A stream has one list of texts, so what was read of a sealed stream up to its end is
-/// the text that was sealed. If the stream begins under no key before this one, this one is chosen.
+/// A stream that was sealed with a key opens to its text. It is a stream of the key with the chunks of the
+/// text, and these joined are the text. A stream has one list of texts, so what was read of a sealed stream
+/// up to its end is the text that was sealed. If the stream begins under no key before this one, this one is
+/// chosen.
 pub fn law_sealed_opens()
     ensures stream { (k : StreamKey) (aad salt prefix keys text : List ℕ) → IsUsable k
         → length salt ≡ k.derived → length prefix ≡ 7
         → keys_of k aad salt ≡ Some keys → chunk_count k text ≤ 2 ^ 32
         → IsStream (opening_key aad k) (stream k aad salt prefix text) (chunks (first_room k) (room k) text) }
-    ensures text { (k : StreamKey) (text : List ℕ) → IsUsable k → joined (chunks (first_room k) (room k) text) ≡ text }
+    ensures text { (k : StreamKey) (text : List ℕ) → IsUsable k
+        → joined (chunks (first_room k) (room k) text) ≡ text }
     ensures one { (k : StreamKey) (aad S : List ℕ) (texts others : List (List ℕ)) → IsUsable k
         → IsStream (opening_key aad k) S texts → IsStream (opening_key aad k) S others
         → others ≡ texts }
@@ -96,9 +98,10 @@ pub fn law_sealed_opens()
         → length salt ≡ k.derived → length prefix ≡ 7
         → keys_of k aad salt ≡ Some keys → chunk_count k text ≤ 2 ^ 32
         → IsTextOfStream (opening_key aad k) (Some (stream k aad salt prefix text)) given → given ≡ text }
-    ensures chosen { (k : StreamKey) (aad S : List ℕ) (texts : List (List ℕ)) (earlier others : List OpeningKey)
-        → IsUsable k → IsStream (opening_key aad k) S texts
-        → IsChosen earlier S None → IsChosen (earlier ++ opening_key aad k ∷ others) S (Some (opening_key aad k)) }
+    ensures chosen { (k : StreamKey) (aad S : List ℕ) (texts : List (List ℕ))
+        (earlier others : List OpeningKey) → IsUsable k → IsStream (opening_key aad k) S texts
+        → IsChosen earlier S None
+        → IsChosen (earlier ++ opening_key aad k ∷ others) S (Some (opening_key aad k)) }
     ensures read_chosen { (k : StreamKey) (aad salt prefix keys text given : List ℕ)
         (earlier others : List OpeningKey) → IsUsable k → length salt ≡ k.derived → length prefix ≡ 7
         → keys_of k aad salt ≡ Some keys → chunk_count k text ≤ 2 ^ 32

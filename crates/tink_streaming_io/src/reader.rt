@@ -85,8 +85,8 @@ impl<R: Source + Drop, D: SegmentDecrypter + Drop> Reader<R, D> {
           pending = [];
           held = [];
           room = vec_len buffers.sealed;
-          memory = vec_capacity buffers.sealed + vec_capacity buffers.text + vec_capacity buffers.nonce + vec_capacity
-              params.nonce_prefix;
+          memory = vec_capacity buffers.sealed + vec_capacity buffers.text + vec_capacity buffers.nonce
+              + vec_capacity params.nonce_prefix;
           source = params.r;
         }) }
         ensures refused { IfErr result (λ e. sizes_fault params.nonce_size

@@ -61,10 +61,10 @@ impl<D: SegmentDecrypter + Drop> TextReader<D> {
         }
     }
 
-    /// Gives the next bytes of the text, as many as are opened and `buf` has room for, and answers how many. If no
-    /// opened text is left, the next segment is opened first. For it no more is read than its chunk and a byte behind
-    /// it. `Ok(0)` comes on an empty buffer, which reads nothing, and at the end, for good. The reader keeps the
-    /// memory that it has.
+    /// Gives the next bytes of the text, as many as are opened and `buf` has room for, and answers how many.
+    /// If no opened text is left, the next segment is opened first. For it no more is read than its chunk and
+    /// a byte behind it. `Ok(0)` comes on an empty buffer, which reads nothing, and at the end, for good. The
+    /// reader keeps the memory that it has.
     ///
     /// # Errors
     /// ReadFault, TooManySegments, BadSegment and Truncated where the next segment was not opened, as in
@@ -73,8 +73,8 @@ impl<D: SegmentDecrypter + Drop> TextReader<D> {
         requires at_end { EndsEmpty S.left self.old.reader source.old }
         ensures answer { ReadMeans (segment_map self.old.reader.opener) self.old.reader.opener.first
             self.old.reader.opener.size self.old.reader.opener.overhead
-            (text_moment S.left S.faults self.old source.old) (text_moment S.left S.faults self.new source.new)
-            buf.old buf.new result }
+            (text_moment S.left S.faults self.old source.old)
+            (text_moment S.left S.faults self.new source.new) buf.old buf.new result }
         ensures within { IfOk result (λ n. n ≤ length buf.new) }
         ensures at_end { EndsEmpty S.left self.new.reader source.new }
         // where no segment is due, nothing is read
@@ -82,11 +82,10 @@ impl<D: SegmentDecrypter + Drop> TextReader<D> {
             → (source.new ≡ source.old) × (held_bytes self.new.reader ≡ held_bytes self.old.reader) }
         // whatever the answer, no more is read than the next chunk and a byte behind it
         ensures read { LosesAtMost (reader_lacks self.old.reader) (S.left source.old) (S.left source.new) }
-        ensures opener { self.new.reader.opener ≡ self.old.reader.opener }
-        ensures room { vec_len self.new.reader.buffer ≡ vec_len self.old.reader.buffer }
-        ensures memory { reader_memory self.new.reader ≡ reader_memory self.old.reader }
-        ensures later { S.faults source.old ≤ S.faults source.new }
-        ensures same { S.same source.old source.new }
+        ensures keeps { (self.new.reader.opener ≡ self.old.reader.opener)
+            × (vec_len self.new.reader.buffer ≡ vec_len self.old.reader.buffer)
+            × (reader_memory self.new.reader ≡ reader_memory self.old.reader) }
+        ensures stays { (S.faults source.old ≤ S.faults source.new) × S.same source.old source.new }
     {
         if let Progress::Failed(c) = self.reader.progress {
             return Err(TinkError::new(Kind::FailedBefore(c)));

@@ -161,9 +161,10 @@ fn trial_by<D: SegmentDecrypter + Drop>(
     }
 }
 
-/// Whether the stream of a source begins under a key: with its output prefix, its header, and a first segment that
-/// opens. It reads at most to a byte behind the header. If keys are derived from the header of a stream with the
-/// key's output prefix, it reads at most to a byte behind the first segment. Afterwards `opened` holds no text.
+/// Whether the stream of a source begins under a key: with its output prefix, its header, and a first segment
+/// that opens. It reads at most to a byte behind the header. If keys are derived from the header of a stream
+/// with the key's output prefix, it reads at most to a byte behind the first segment. Afterwards `opened`
+/// holds no text.
 ///
 /// # Errors
 /// Failed where the source failed. What was read is kept.
@@ -188,10 +189,9 @@ pub fn try_key<S: Source, D: SegmentDecrypter + Drop, T: OpensStreams<D>>(
         → MayBegin (T.opening_key key.now) X) }
     // whatever the answer, no text is left there, not even one that stood there before
     ensures opened { opened.new.items ≡ [] }
-    ensures room { KeepsRoom kept.old kept.new nonce.old nonce.new opened.old opened.new }
-    ensures prefix { IfOk result (HasPrefixRoom (vec_capacity prefix)) }
-    ensures later { S.faults source.old ≤ S.faults source.new }
-    ensures same { S.same source.old source.new }
+    ensures room { KeepsRoom kept.old kept.new nonce.old nonce.new opened.old opened.new
+        × IfOk result (HasPrefixRoom (vec_capacity prefix)) }
+    ensures stays { (S.faults source.old ≤ S.faults source.new) × S.same source.old source.new }
 {
     opened.clear();
     let h = key.header_length();

@@ -79,7 +79,8 @@ impl<W: Sink + Drop, E: SegmentEncrypter + Drop> Writer<W, E> {
           mode = Open;
           number = 0;
           held = [];
-          memory = vec_capacity buffers.segment + vec_capacity buffers.nonce + vec_capacity params.nonce_prefix;
+          memory = vec_capacity buffers.segment + vec_capacity buffers.nonce
+              + vec_capacity params.nonce_prefix;
           sink = params.w;
         }) }
         ensures refused { IfErr result (λ e. sizes_fault params.nonce_size

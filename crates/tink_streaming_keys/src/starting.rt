@@ -65,9 +65,9 @@ impl Trial {
 /// its front.
 ///
 /// # Errors
-/// NoMatchingKey where the stream begins under none, ReadFault where the source failed. No more was read than the
-/// trial has room for, and the bytes that the reader's first segment still lacks. If the stream begins in a front of
-/// none of the keys, no more was read than the longest front and a byte.
+/// NoMatchingKey where the stream begins under none, ReadFault where the source failed. No more was read than
+/// the trial has room for, and the bytes that the reader's first segment still lacks. If the stream begins in
+/// a front of none of the keys, no more was read than the longest front and a byte.
 pub fn start<S: Source, T: DerivesStreams>(
     keys: &[T],
     aad: &[u8],
@@ -88,7 +88,8 @@ pub fn start<S: Source, T: DerivesStreams>(
     ensures read { LosesAtMost (vec_len trial.kept.buffer - trial.kept.filled) (S.left source.old)
         (S.left source.new) × IfOk result (λ r. LosesAtMost (vec_len trial.kept.buffer - trial.kept.filled
         - reader_lacks r) (S.left source.old) (S.left source.new)) }
-    // where the stream begins in a front of none of the keys, but for those from whose headers no keys are derived
+    // where the stream begins in a front of none of the keys, but for those from whose headers no keys are
+    // derived
     ensures further { IfSome (kept_rest S.left trial.kept source.old) (ReadsFronts
         (map (λ k. opening_key aad.now (T.key_of k)) keys.now) trial.kept.filled
         (S.left source.old) (S.left source.new)) }

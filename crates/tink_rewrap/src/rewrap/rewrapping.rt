@@ -59,8 +59,8 @@ pub fn rewrap<S: Source, K: Sink>(
         (outside_of S.left S.faults K.got K.faults source.new sink.new)
         result }
 
-    // Known bytes: the source was exactly a stream of the chosen key of the first keyset, and exactly the stream of
-    // its text under the second one's primary key was written.
+    // Known bytes: the source was exactly a stream of the chosen key of the first keyset, and exactly the
+    // stream of its text under the second one's primary key was written.
     ensures rewrapped { IfOk result (λ report. (X G : List ℕ)
         → Told (outside_of S.left S.faults K.got K.faults source.old sink.old) X G
         → IsWholeRewrap (sides from.now from_aad.now to.now to_aad.now)
@@ -93,8 +93,8 @@ pub fn rewrap<S: Source, K: Sink>(
     // An error that comes before anything was read or written leaves the ends themselves as they were.
     ensures early { LeavesEnds result source.old source.new sink.old sink.new }
 
-    // One that comes before a key was chosen leaves the sink itself as it was, `NoMatchingKey` among them. After
-    // another error a key was chosen, or the sink itself is as it was.
+    // One that comes before a key was chosen leaves the sink itself as it was, `NoMatchingKey` among them.
+    // After another error a key was chosen, or the sink itself is as it was.
     ensures unwritten { LeavesSinkItself result sink.old sink.new
         × LeavesOrBeginsOf (sides from.now from_aad.now to.now to_aad.now)
         (outside_of S.left S.faults K.got K.faults source.old sink.old) result sink.old sink.new }

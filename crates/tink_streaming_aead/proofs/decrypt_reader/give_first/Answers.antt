@@ -29,7 +29,7 @@ returns-in-Ok-clause-answer g c =
     let o = reader.opener in
     let seg : ℕ → Bool → List ℕ → List ℕ = segment_map o in
     let n : TextMoment = text_moment g.S.Source.left g.S.Source.faults c.read.new.self c.read.new.source in
-    rw c.read.ensures.opener (record {
+    rw c.read.ensures.keeps.0 (record {
       rest = m.rest;
       chosen = rw keys at started;
       faults = m.faults;
@@ -63,8 +63,8 @@ returns g c =
           c.in_ok-reader.ensures.read.1 c.read.ensures.read;
       fronts = started_fronts _ (g.S.Source.left c.args.source.now) m.rest (g.S.Source.left c.args.source.now) (g.S.Source.left c.read.new.source) seg o.first o.size o.overhead (rw keys at started);
       at_end = tt;
-      later = omega (arith, c.start.ensures.stays.0, c.read.ensures.later);
-      same = g.met.S.Source.same_trans _ _ _ c.start.ensures.stays.1 c.read.ensures.same;
+      later = omega (arith, c.start.ensures.stays.0, c.read.ensures.stays.0);
+      same = g.met.S.Source.same_trans _ _ _ c.start.ensures.stays.1 c.read.ensures.stays.1;
     }
 
 pub returns-in_err-reader-clause-within : goal.returns-in_err-reader-clause-within
@@ -92,10 +92,10 @@ pub returns-in-Ok-clause-within : goal.returns-in-Ok-clause-within
 returns-in-Ok-clause-within g c = c.in-Ok.ensures.within
 
 pub returns-in-Ok-clause-room : goal.returns-in-Ok-clause-room
-returns-in-Ok-clause-room g c = c.read.ensures.room ∙ c.in_ok-reader.ensures.fresh.3
+returns-in-Ok-clause-room g c = c.read.ensures.keeps.1 ∙ c.in_ok-reader.ensures.fresh.3
 
 pub returns-in-Ok-clause-memory : goal.returns-in-Ok-clause-memory
-returns-in-Ok-clause-memory g c = c.read.ensures.memory ∙ c.in_ok-reader.ensures.memory
+returns-in-Ok-clause-memory g c = c.read.ensures.keeps.2 ∙ c.in_ok-reader.ensures.memory
 
 pub returns-in-Ok-clause-read : goal.returns-in-Ok-clause-read
 returns-in-Ok-clause-read g c =
@@ -108,10 +108,10 @@ pub returns-in-Ok-clause-at_end : goal.returns-in-Ok-clause-at_end
 returns-in-Ok-clause-at_end g c = c.read.ensures.at_end
 
 pub returns-in-Ok-clause-later : goal.returns-in-Ok-clause-later
-returns-in-Ok-clause-later g c = omega (arith, c.start.ensures.stays.0, c.read.ensures.later)
+returns-in-Ok-clause-later g c = omega (arith, c.start.ensures.stays.0, c.read.ensures.stays.0)
 
 pub returns-in-Ok-clause-same : goal.returns-in-Ok-clause-same
-returns-in-Ok-clause-same g c = g.met.S.Source.same_trans _ _ _ c.start.ensures.stays.1 c.read.ensures.same
+returns-in-Ok-clause-same g c = g.met.S.Source.same_trans _ _ _ c.start.ensures.stays.1 c.read.ensures.stays.1
 
 pub returns-in-Ok-clause-fronts : goal.returns-in-Ok-clause-fronts
 returns-in-Ok-clause-fronts g c = tt

@@ -94,16 +94,10 @@ returns-in_err-keep-clause-further g c =
 pub returns-in_err-keep-clause-room : goal.returns-in_err-keep-clause-room
 returns-in_err-keep-clause-room g c =
     let kept = c.in_err-keep.ensures in
-    record { buffers = record { nonce_len = refl; nonce_capacity = refl; capacity = c.clear.ensures.capacity }; len = kept.len; kept_capacity = kept.capacity; more = kept.more }
+    (record { buffers = record { nonce_len = refl; nonce_capacity = refl; capacity = c.clear.ensures.capacity }; len = kept.len; kept_capacity = kept.capacity; more = kept.more }, (let p = err_from_is_err_and c.from_residual.result c.from_residual.ensures.1 in rw p.1 tt))
 
-pub returns-in_err-keep-clause-prefix : goal.returns-in_err-keep-clause-prefix
-returns-in_err-keep-clause-prefix g c = let p = err_from_is_err_and c.from_residual.result c.from_residual.ensures.1 in rw p.1 tt
-
-pub returns-in_err-keep-clause-later : goal.returns-in_err-keep-clause-later
-returns-in_err-keep-clause-later g c = c.in_err-keep.ensures.later
-
-pub returns-in_err-keep-clause-same : goal.returns-in_err-keep-clause-same
-returns-in_err-keep-clause-same g c = c.in_err-keep.ensures.same
+pub returns-in_err-keep-clause-stays : goal.returns-in_err-keep-clause-stays
+returns-in_err-keep-clause-stays g c = (c.in_err-keep.ensures.later, c.in_err-keep.ensures.same)
 
 pub returns-in-Err-clause-failed : goal.returns-in-Err-clause-failed
 returns-in-Err-clause-failed g c = tt
@@ -121,16 +115,10 @@ returns-in-Err-clause-further g c =
 pub returns-in-Err-clause-room : goal.returns-in-Err-clause-room
 returns-in-Err-clause-room g c =
     let kept = c.in_ok-keep.ensures in
-    record { buffers = record { nonce_len = refl; nonce_capacity = refl; capacity = c.clear.ensures.capacity }; len = kept.len; kept_capacity = kept.capacity; more = kept.more }
+    (record { buffers = record { nonce_len = refl; nonce_capacity = refl; capacity = c.clear.ensures.capacity }; len = kept.len; kept_capacity = kept.capacity; more = kept.more }, (c.in-Err.ensures.room))
 
-pub returns-in-Err-clause-prefix : goal.returns-in-Err-clause-prefix
-returns-in-Err-clause-prefix g c = c.in-Err.ensures.room
-
-pub returns-in-Err-clause-later : goal.returns-in-Err-clause-later
-returns-in-Err-clause-later g c = c.in_ok-keep.ensures.later
-
-pub returns-in-Err-clause-same : goal.returns-in-Err-clause-same
-returns-in-Err-clause-same g c = c.in_ok-keep.ensures.same
+pub returns-in-Err-clause-stays : goal.returns-in-Err-clause-stays
+returns-in-Err-clause-stays g c = (c.in_ok-keep.ensures.later, c.in_ok-keep.ensures.same)
 
 pub returns-in_err-keep-2-clause-answer : goal.returns-in_err-keep-2-clause-answer
 returns-in_err-keep-2-clause-answer g c = let p = err_from_is_err_and c.from_residual-in_err-keep-2.result c.from_residual-in_err-keep-2.ensures.1 in rw p.1 tt
@@ -161,16 +149,10 @@ pub returns-in_err-keep-2-clause-room : goal.returns-in_err-keep-2-clause-room
 returns-in_err-keep-2-clause-room g c =
     let first = c.in_ok-keep.ensures in
     let then = c.in_err-keep-2.ensures in
-    record { buffers = record { nonce_len = refl; nonce_capacity = refl; capacity = c.clear.ensures.capacity }; len = then.len ∙ first.len; kept_capacity = then.capacity ∙ first.capacity; more = omega (arith, first.more, then.more) }
+    (record { buffers = record { nonce_len = refl; nonce_capacity = refl; capacity = c.clear.ensures.capacity }; len = then.len ∙ first.len; kept_capacity = then.capacity ∙ first.capacity; more = omega (arith, first.more, then.more) }, (let p = err_from_is_err_and c.from_residual-in_err-keep-2.result c.from_residual-in_err-keep-2.ensures.1 in rw p.1 tt))
 
-pub returns-in_err-keep-2-clause-prefix : goal.returns-in_err-keep-2-clause-prefix
-returns-in_err-keep-2-clause-prefix g c = let p = err_from_is_err_and c.from_residual-in_err-keep-2.result c.from_residual-in_err-keep-2.ensures.1 in rw p.1 tt
-
-pub returns-in_err-keep-2-clause-later : goal.returns-in_err-keep-2-clause-later
-returns-in_err-keep-2-clause-later g c = omega (arith, c.in_ok-keep.ensures.later, c.in_err-keep-2.ensures.later)
-
-pub returns-in_err-keep-2-clause-same : goal.returns-in_err-keep-2-clause-same
-returns-in_err-keep-2-clause-same g c = g.met.S.Source.same_trans _ _ _ c.in_ok-keep.ensures.same c.in_err-keep-2.ensures.same
+pub returns-in_err-keep-2-clause-stays : goal.returns-in_err-keep-2-clause-stays
+returns-in_err-keep-2-clause-stays g c = (omega (arith, c.in_ok-keep.ensures.later, c.in_err-keep-2.ensures.later), g.met.S.Source.same_trans _ _ _ c.in_ok-keep.ensures.same c.in_err-keep-2.ensures.same)
 
 pub open_front-begins-requires-clause-room : goal.open_front-begins-requires-clause-room
 open_front-begins-requires-clause-room g c = omega (arith, c.in-Ok.ensures.sizes.1, c.requires.room.text_room, c.clear.ensures.capacity)
@@ -198,17 +180,10 @@ returns-clause-room g c =
     let first = c.in_ok-keep.ensures in
     let then = c.in_ok-keep-2.ensures in
     let tried = c.open_front-begins.ensures.room in
-    record { buffers = record { nonce_len = tried.nonce_len; nonce_capacity = tried.nonce_capacity; capacity = c.clear-2.ensures.capacity ∙ tried.capacity ∙ c.clear.ensures.capacity }; len = then.len ∙ first.len; kept_capacity = then.capacity ∙ first.capacity; more = omega (arith, first.more, then.more) }
+    (record { buffers = record { nonce_len = tried.nonce_len; nonce_capacity = tried.nonce_capacity; capacity = c.clear-2.ensures.capacity ∙ tried.capacity ∙ c.clear.ensures.capacity }; len = then.len ∙ first.len; kept_capacity = then.capacity ∙ first.capacity; more = omega (arith, first.more, then.more) }, (prefix_kept c.open_front-begins.result (record { opener = c.in-Ok.opener; front = length c.output_prefix.result.now + c.header_length-h.result }) c.trial_by.result _ c.in-Ok.ensures.prefix_room c.trial_by.ensures))
 
-pub returns-clause-prefix : goal.returns-clause-prefix
-returns-clause-prefix g c =
-    prefix_kept c.open_front-begins.result (record { opener = c.in-Ok.opener; front = length c.output_prefix.result.now + c.header_length-h.result }) c.trial_by.result _ c.in-Ok.ensures.prefix_room c.trial_by.ensures
-
-pub returns-clause-later : goal.returns-clause-later
-returns-clause-later g c = omega (arith, c.in_ok-keep.ensures.later, c.in_ok-keep-2.ensures.later)
-
-pub returns-clause-same : goal.returns-clause-same
-returns-clause-same g c = g.met.S.Source.same_trans _ _ _ c.in_ok-keep.ensures.same c.in_ok-keep-2.ensures.same
+pub returns-clause-stays : goal.returns-clause-stays
+returns-clause-stays g c = (omega (arith, c.in_ok-keep.ensures.later, c.in_ok-keep-2.ensures.later), g.met.S.Source.same_trans _ _ _ c.in_ok-keep.ensures.same c.in_ok-keep-2.ensures.same)
 
 pub returns-in_err-keep-clause-opened : goal.returns-in_err-keep-clause-opened
 returns-in_err-keep-clause-opened g c = c.clear.ensures.items

@@ -37,10 +37,10 @@ returns-in-Begins-clause-answer g c =
           inv.chosen;
       rest = Keeps-trans _ _ _ inv.rest tried.rest;
       front = tried.front;
-      size = omega (arith, tried.size, sealed, called.room.len, inv.len);
-      near = omega (arith, tried.near, sealed, called.room.len, inv.len);
-      nonce = omega (arith, tried.nonce, nonce, called.room.buffers.nonce_len, inv.nonce_len);
-      text = omega (arith, tried.size, text, called.room.buffers.capacity, inv.capacity);
+      size = omega (arith, tried.size, sealed, called.room.0.len, inv.len);
+      near = omega (arith, tried.near, sealed, called.room.0.len, inv.len);
+      nonce = omega (arith, tried.nonce, nonce, called.room.0.buffers.nonce_len, inv.nonce_len);
+      text = omega (arith, tried.size, text, called.room.0.buffers.capacity, inv.capacity);
     }
 
 pub returns-in-Begins-clause-read : goal.returns-in-Begins-clause-read
@@ -48,13 +48,13 @@ returns-in-Begins-clause-read g c =
     let inv = c.loop-key.invariant in
     let called = c.in_ok-begun.ensures in
     let tried = rw c.in-Begins.is at called.answer in
-    read_kept g.S.Source.left c.args.kept.now c.try_key.new.kept c.args.source.now c.try_key.new.source (Keeps-trans _ _ _ inv.rest tried.rest) (omega (arith, called.room.more, inv.more)) (called.room.len ∙ inv.len)
+    read_kept g.S.Source.left c.args.kept.now c.try_key.new.kept c.args.source.now c.try_key.new.source (Keeps-trans _ _ _ inv.rest tried.rest) (omega (arith, called.room.0.more, inv.more)) (called.room.0.len ∙ inv.len)
 
 pub returns-in_err-begun-clause-read : goal.returns-in_err-begun-clause-read
 returns-in_err-begun-clause-read g c =
     let inv = c.loop-key.invariant in
     let called = c.in_err-begun.ensures in
-    read_kept g.S.Source.left c.args.kept.now c.try_key.new.kept c.args.source.now c.try_key.new.source (Keeps-trans _ _ _ inv.rest called.failed.rest) (omega (arith, called.room.more, inv.more)) (called.room.len ∙ inv.len)
+    read_kept g.S.Source.left c.args.kept.now c.try_key.new.kept c.args.source.now c.try_key.new.source (Keeps-trans _ _ _ inv.rest called.failed.rest) (omega (arith, called.room.0.more, inv.more)) (called.room.0.len ∙ inv.len)
 
 pub returns-clause-read : goal.returns-clause-read
 returns-clause-read g c =
@@ -99,13 +99,13 @@ loop-key-preserved g c =
     let tried = rw c.in-Differs.is at called.answer in
     let split = key_split keys c.loop-key.key-index key (omega arith) c.key-item.is in
     record {
-      len = called.room.len ∙ inv.len;
-      nonce_len = called.room.buffers.nonce_len ∙ inv.nonce_len;
-      capacity = called.room.buffers.capacity ∙ inv.capacity;
-      kept_capacity = called.room.kept_capacity ∙ inv.kept_capacity;
-      nonce_capacity = called.room.buffers.nonce_capacity ∙ inv.nonce_capacity;
-      more = omega (arith, called.room.more, inv.more);
-      prefix_capacity = (rw c.in-Differs.is at called.prefix) ∙ inv.prefix_capacity;
+      len = called.room.0.len ∙ inv.len;
+      nonce_len = called.room.0.buffers.nonce_len ∙ inv.nonce_len;
+      capacity = called.room.0.buffers.capacity ∙ inv.capacity;
+      kept_capacity = called.room.0.kept_capacity ∙ inv.kept_capacity;
+      nonce_capacity = called.room.0.buffers.nonce_capacity ∙ inv.nonce_capacity;
+      more = omega (arith, called.room.0.more, inv.more);
+      prefix_capacity = (rw c.in-Differs.is at called.room.1) ∙ inv.prefix_capacity;
       rest = Keeps-trans _ _ _ inv.rest tried.rest;
       chosen = both_told told (λ X. Begins (of key) X → ⊥) (ChosenFrom of keys c.loop-key.key-index) (ChosenFrom of keys (c.loop-key.key-index + 1))
           (λ X other h. pass_over of keys c.loop-key.key-index key X split other h)
@@ -113,8 +113,8 @@ loop-key-preserved g c =
           inv.chosen;
       further = keeps_tried of keys c.loop-key.key-index key c.args.kept.now.filled c.loop-key.kept.filled c.try_key.new.kept.filled told _ (omega arith) c.key-item.is inv.rest inv.further called.further;
       empty = called.opened;
-      later = omega (arith, called.later, inv.later);
-      same = g.met.S.Source.same_trans _ _ _ inv.same called.same;
+      later = omega (arith, called.stays.0, inv.later);
+      same = g.met.S.Source.same_trans _ _ _ inv.same called.stays.1;
     }
 
 pub try_key-requires : goal.try_key-requires
@@ -142,7 +142,7 @@ returns-in-Begins-clause-failed g c = tt
 pub returns-in-Begins-clause-room : goal.returns-in-Begins-clause-room
 returns-in-Begins-clause-room g c =
     let inv = c.loop-key.invariant in
-    let called = c.in_ok-begun.ensures.room in
+    let called = c.in_ok-begun.ensures.room.0 in
     record {
       buffers = record { nonce_len = called.buffers.nonce_len ∙ inv.nonce_len; nonce_capacity = called.buffers.nonce_capacity ∙ inv.nonce_capacity; capacity = called.buffers.capacity ∙ inv.capacity };
       len = called.len ∙ inv.len;
@@ -154,10 +154,10 @@ pub returns-in-Begins-clause-prefix : goal.returns-in-Begins-clause-prefix
 returns-in-Begins-clause-prefix g c = (rw c.in-Begins.is at c.in_ok-begun.ensures.prefix) ∙ c.loop-key.invariant.prefix_capacity
 
 pub returns-in-Begins-clause-later : goal.returns-in-Begins-clause-later
-returns-in-Begins-clause-later g c = omega (arith, c.in_ok-begun.ensures.later, c.loop-key.invariant.later)
+returns-in-Begins-clause-later g c = omega (arith, c.in_ok-begun.ensures.stays.0, c.loop-key.invariant.later)
 
 pub returns-in-Begins-clause-same : goal.returns-in-Begins-clause-same
-returns-in-Begins-clause-same g c = g.met.S.Source.same_trans _ _ _ c.loop-key.invariant.same c.in_ok-begun.ensures.same
+returns-in-Begins-clause-same g c = g.met.S.Source.same_trans _ _ _ c.loop-key.invariant.same c.in_ok-begun.ensures.stays.1
 
 pub returns-in_err-begun-clause-answer : goal.returns-in_err-begun-clause-answer
 returns-in_err-begun-clause-answer g c = let p = err_from_is_err_and c.from_residual.result c.from_residual.ensures.1 in rw p.1 tt
@@ -165,7 +165,7 @@ returns-in_err-begun-clause-answer g c = let p = err_from_is_err_and c.from_resi
 pub returns-in_err-begun-clause-room : goal.returns-in_err-begun-clause-room
 returns-in_err-begun-clause-room g c =
     let inv = c.loop-key.invariant in
-    let called = c.in_err-begun.ensures.room in
+    let called = c.in_err-begun.ensures.room.0 in
     record {
       buffers = record { nonce_len = called.buffers.nonce_len ∙ inv.nonce_len; nonce_capacity = called.buffers.nonce_capacity ∙ inv.nonce_capacity; capacity = called.buffers.capacity ∙ inv.capacity };
       len = called.len ∙ inv.len;
@@ -177,10 +177,10 @@ pub returns-in_err-begun-clause-prefix : goal.returns-in_err-begun-clause-prefix
 returns-in_err-begun-clause-prefix g c = let p = err_from_is_err_and c.from_residual.result c.from_residual.ensures.1 in rw p.1 tt
 
 pub returns-in_err-begun-clause-later : goal.returns-in_err-begun-clause-later
-returns-in_err-begun-clause-later g c = omega (arith, c.in_err-begun.ensures.later, c.loop-key.invariant.later)
+returns-in_err-begun-clause-later g c = omega (arith, c.in_err-begun.ensures.stays.0, c.loop-key.invariant.later)
 
 pub returns-in_err-begun-clause-same : goal.returns-in_err-begun-clause-same
-returns-in_err-begun-clause-same g c = g.met.S.Source.same_trans _ _ _ c.loop-key.invariant.same c.in_err-begun.ensures.same
+returns-in_err-begun-clause-same g c = g.met.S.Source.same_trans _ _ _ c.loop-key.invariant.same c.in_err-begun.ensures.stays.1
 
 pub returns-clause-failed : goal.returns-clause-failed
 returns-clause-failed g c = tt
@@ -215,7 +215,7 @@ returns-in-Begins-clause-further g c =
     let inv = c.loop-key.invariant in
     let called = c.in_ok-begun.ensures in
     let tried = rw c.in-Begins.is at called.answer in
-    reads_fronts g.S.Source.left (map of keys) old new c.args.source.now c.try_key.new.source (Keeps-trans _ _ _ inv.rest tried.rest) (omega (arith, called.room.more, inv.more))
+    reads_fronts g.S.Source.left (map of keys) old new c.args.source.now c.try_key.new.source (Keeps-trans _ _ _ inv.rest tried.rest) (omega (arith, called.room.0.more, inv.more))
     (keeps_tried of keys c.loop-key.key-index key old.filled c.loop-key.kept.filled new.filled told _ (omega arith) c.key-item.is inv.rest inv.further called.further)
 
 pub returns-in-Begins-clause-opened : goal.returns-in-Begins-clause-opened
@@ -231,7 +231,7 @@ returns-in_err-begun-clause-further g c =
     let key : g.row.T.Denot = c.key-item.result in
     let inv = c.loop-key.invariant in
     let called = c.in_err-begun.ensures in
-    reads_fronts g.S.Source.left (map of keys) old new c.args.source.now c.try_key.new.source (Keeps-trans _ _ _ inv.rest called.failed.rest) (omega (arith, called.room.more, inv.more))
+    reads_fronts g.S.Source.left (map of keys) old new c.args.source.now c.try_key.new.source (Keeps-trans _ _ _ inv.rest called.failed.rest) (omega (arith, called.room.0.more, inv.more))
     (keeps_tried of keys c.loop-key.key-index key old.filled c.loop-key.kept.filled new.filled told _ (omega arith) c.key-item.is inv.rest inv.further called.further)
 
 pub returns-in_err-begun-clause-opened : goal.returns-in_err-begun-clause-opened

@@ -23,8 +23,9 @@ returns-clause-given g c =
     (ends_of g.A.ReadAt.bytes g.A.ReadAt.faults object c.read_range.new.object c.args.sink.now c.read_range.new.sink)
     core.opener.some core.opener.first_fits long c.read_range.result c.read_range.ensures.answer)
 
-pub returns-clause-memory : goal.returns-clause-memory
-returns-clause-memory g c = c.read_range.ensures.core.memory ∙ ap (λ (r : RangeState (g.row.A.Denot)). r.memory) c.self.view_is
+pub returns-clause-sizes : goal.returns-clause-sizes
+returns-clause-sizes g c =
+    (c.read_range.ensures.core.front ∙ ap (λ (r : RangeState (g.row.A.Denot)). r.front) c.self.view_is, c.read_range.ensures.core.behind ∙ ap (λ (r : RangeState (g.row.A.Denot)). r.behind) c.self.view_is, c.read_range.ensures.core.memory ∙ ap (λ (r : RangeState (g.row.A.Denot)). r.memory) c.self.view_is)
 
 pub returns-clause-answer : goal.returns-clause-answer
 returns-clause-answer g c =
@@ -33,29 +34,21 @@ returns-clause-answer g c =
     c.self.view_is c.read_range.ensures.answer
 
 pub returns-clause-ticks : goal.returns-clause-ticks
-returns-clause-ticks g c =
-    subst (λ (r : RangeState (g.row.A.Denot)). c.read_range.new.steps ≤ c.args.steps.now + (range_end (cut_by r) r.behind c.args.start c.args.len - range_start (cut_by r) r.behind c.args.start
-    + (r.opening.size - r.opening.overhead) - 1) / (r.opening.size - r.opening.overhead) + 2)
-    c.self.view_is c.read_range.ensures.ticks
-
-pub returns-clause-touched : goal.returns-clause-touched
-returns-clause-touched g c =
-    subst (λ (r : RangeState (g.row.A.Denot)). TakesTouched (cut_by r) (range_start (cut_by r) r.behind c.args.start) (range_end (cut_by r) r.behind c.args.start c.args.len) 1 c.args.steps.now c.read_range.new.steps c.read_range.result)
-    c.self.view_is c.read_range.ensures.touched
+returns-clause-ticks g c = (
+  (subst (λ (r : RangeState (g.row.A.Denot)). c.read_range.new.steps ≤ c.args.steps.now + (range_end (cut_by r) r.behind c.args.start c.args.len - range_start (cut_by r) r.behind c.args.start
+      + (r.opening.size - r.opening.overhead) - 1) / (r.opening.size - r.opening.overhead) + 2)
+      c.self.view_is c.read_range.ensures.ticks),
+  (subst (λ (r : RangeState (g.row.A.Denot)). TakesTouched (cut_by r) (range_start (cut_by r) r.behind c.args.start) (range_end (cut_by r) r.behind c.args.start c.args.len) 1 c.args.steps.now c.read_range.new.steps c.read_range.result)
+      c.self.view_is c.read_range.ensures.touched),
+)
 
 pub returns-clause-kept : goal.returns-clause-kept
 returns-clause-kept g c =
     subst (λ (r : RangeState (g.row.A.Denot)). LeavesObject g.A.ReadAt.length_of g.A.ReadAt.bytes g.A.ReadAt.faults r.object c.read_range.new.object c.read_range.result)
     c.self.view_is c.read_range.ensures.kept
 
-pub returns-clause-object : goal.returns-clause-object
-returns-clause-object g c = subst (λ (r : RangeState (g.row.A.Denot)). g.A.ReadAt.same r.object c.read_range.new.object) c.self.view_is c.read_range.ensures.object
-
-pub returns-clause-front : goal.returns-clause-front
-returns-clause-front g c = c.read_range.ensures.core.front ∙ ap (λ (r : RangeState (g.row.A.Denot)). r.front) c.self.view_is
-
-pub returns-clause-behind : goal.returns-clause-behind
-returns-clause-behind g c = c.read_range.ensures.core.behind ∙ ap (λ (r : RangeState (g.row.A.Denot)). r.behind) c.self.view_is
+pub returns-clause-stays : goal.returns-clause-stays
+returns-clause-stays g c = ((subst (λ (r : RangeState (g.row.A.Denot)). g.A.ReadAt.same r.object c.read_range.new.object) c.self.view_is c.read_range.ensures.object), c.read_range.ensures.later, c.read_range.ensures.sink)
 
 pub returns-clause-taken : goal.returns-clause-taken
 returns-clause-taken g c =

@@ -36,7 +36,7 @@ pub returns-in-Chosen-clause-answer : goal.returns-in-Chosen-clause-answer
 returns-in-Chosen-clause-answer g c =
     let new : DecryptState g.row.S.Denot = state_of (Chosen c.read.new.self) c.read.new.source in
     subst (λ (s : DecryptState g.row.S.Denot). DecryptMeans g.S.Source.left g.S.Source.faults s new c.args.buf.now c.read.new.buf c.read.result)
-    (ap (λ (st : Stage). state_of st c.self.inside.source) (sym c.in-Chosen.is) ∙ c.self.view_is) (ap opening_of c.read.ensures.opener, c.read.ensures.answer)
+    (ap (λ (st : Stage). state_of st c.self.inside.source) (sym c.in-Chosen.is) ∙ c.self.view_is) (ap opening_of c.read.ensures.keeps.0, c.read.ensures.answer)
 
 pub returns-in-Chosen-clause-room : goal.returns-in-Chosen-clause-room
 returns-in-Chosen-clause-room g c =
@@ -44,4 +44,4 @@ returns-in-Chosen-clause-room g c =
     let r = c.read.new.self.reader in
     subst (λ (s : DecryptState g.row.S.Denot). KeepsNoMore s new)
     (ap (λ (st : Stage). state_of st c.self.inside.source) (sym c.in-Chosen.is) ∙ c.self.view_is)
-    (record { kept = omega (arith, length-take r.filled r.buffer.items); room = omega (arith, c.read.ensures.room); memory = omega (arith, c.read.ensures.memory) })
+    (record { kept = omega (arith, length-take r.filled r.buffer.items); room = omega (arith, c.read.ensures.keeps.1); memory = omega (arith, c.read.ensures.keeps.2) })

@@ -17,11 +17,8 @@ returns-then-is_empty g c =
       at_end = c.requires.at_end;
       idle = λ _. (refl, refl);
       read = loses_none _ _;
-      opener = refl;
-      room = refl;
-      memory = refl;
-      later = omega arith;
-      same = g.met.S.Source.same_refl _;
+      keeps = (refl, refl, refl);
+      stays = (omega arith, g.met.S.Source.same_refl _);
     }
 
 pub returns : goal.returns
@@ -40,11 +37,8 @@ returns g c =
       at_end = λ e. end_told _ (answer.ends e);
       idle = λ none. c.in_ok-make_ready.ensures.idle (λ d. none (due_room _ (length c.args.buf.now) some d));
       read = c.in_ok-make_ready.ensures.read;
-      opener = c.in_ok-make_ready.ensures.opener;
-      room = c.in_ok-make_ready.ensures.room;
-      memory = c.in_ok-make_ready.ensures.memory;
-      later = c.in_ok-make_ready.ensures.later;
-      same = c.in_ok-make_ready.ensures.same;
+      keeps = (c.in_ok-make_ready.ensures.opener, c.in_ok-make_ready.ensures.room, c.in_ok-make_ready.ensures.memory);
+      stays = (c.in_ok-make_ready.ensures.later, c.in_ok-make_ready.ensures.same);
     }
 
 pub returns-in-Failed-clause-read : goal.returns-in-Failed-clause-read
