@@ -43,10 +43,10 @@ range_start c behind start = min start (text_length c.first c.size c.over behind
 abbrev pub range_end : Cutting → ℕ → ℕ → ℕ → ℕ
 range_end c behind start len = min (start + len) (text_length c.first c.size c.over behind)
 
--- two chunks more than the text of the range fills
-abbrev pub most_chunks : Cutting → ℕ → ℕ → ℕ → ℕ
-most_chunks c behind start len =
-    (range_end c behind start len - range_start c behind start + (c.size - c.over) - 1) / (c.size - c.over) + 2
+-- how many chunks the text of the range fills, the last one in part
+abbrev pub filled_chunks : Cutting → ℕ → ℕ → ℕ → ℕ
+filled_chunks c behind start len =
+    (range_end c behind start len - range_start c behind start + (c.size - c.over) - 1) / (c.size - c.over)
 
 module _ {W : Type 0} (got : W → Option (List ℕ)) (faults : W → ℕ) (c : Cutting) (behind start len : ℕ) (e : Moments W) where
   -- the last chunk is the segment of a text

@@ -7,7 +7,7 @@ ghost use Rattle.tink_range.specs.ChoosingAt.{NewRefused, Tries};
 ghost use Rattle.tink_range.specs.ChunkReading.{ends_of};
 ghost use Rattle.tink_range.specs.Objects.{LeavesObject};
 ghost use Rattle.tink_range.specs.RangeReaders.{answer_of, cut_by, object_of};
-ghost use Rattle.tink_range.specs.RangeReading.{IsGivenExactly, RangeMeans, most_chunks, range_end, range_start};
+ghost use Rattle.tink_range.specs.RangeReading.{IsGivenExactly, RangeMeans, filled_chunks, range_end, range_start};
 ghost use Rattle.tink_range.specs.Ranges.{text_length};
 ghost use Rattle.tink_range.specs.StepCounts.{TakesTouched};
 ghost use Rattle.tink_streaming_aead.specs.DecryptReaders.{largest};
@@ -122,11 +122,11 @@ impl<A: ReadAt> RangeReader<A> {
         // Known bytes: where neither count rose, the answer is Ok exactly where the range can be given.
         ensures given { IsGivenExactly K.faults (cut_by self.old) self.old.behind start len
             (ends_of A.bytes A.faults self.old.object self.new.object sink.old sink.new) result }
-        ensures ticks { (steps.new ≤ steps.old + most_chunks (cut_by self.old) self.old.behind start len)
+        ensures ticks { (steps.new ≤ steps.old + filled_chunks (cut_by self.old) self.old.behind start len + 2)
             × TakesTouched (cut_by self.old) (range_start (cut_by self.old) self.old.behind start)
             (range_end (cut_by self.old) self.old.behind start len) 1 steps.old steps.new result }
         ensures taken { A.taken self.new.object ≤ A.taken self.old.object
-            + most_chunks (cut_by self.old) self.old.behind start len * self.old.opening.size }
+            + (filled_chunks (cut_by self.old) self.old.behind start len + 2) * self.old.opening.size }
         ensures opening { self.new.opening ≡ self.old.opening }
         ensures sizes { (self.new.front ≡ self.old.front) × (self.new.behind ≡ self.old.behind)
             × (self.new.memory ≡ self.old.memory) }
