@@ -151,7 +151,7 @@ returns-in-Begins-clause-room g c =
     }
 
 pub returns-in-Begins-clause-prefix : goal.returns-in-Begins-clause-prefix
-returns-in-Begins-clause-prefix g c = (rw c.in-Begins.is at c.in_ok-begun.ensures.prefix) ∙ c.loop-key.invariant.prefix_capacity
+returns-in-Begins-clause-prefix g c = (rw c.in-Begins.is at c.in_ok-begun.ensures.room.1) ∙ c.loop-key.invariant.prefix_capacity
 
 pub returns-in-Begins-clause-later : goal.returns-in-Begins-clause-later
 returns-in-Begins-clause-later g c = omega (arith, c.in_ok-begun.ensures.stays.0, c.loop-key.invariant.later)
