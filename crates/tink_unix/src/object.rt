@@ -79,9 +79,10 @@ fn require_regular<'w>(rt: &HostRuntime, name: &'w [u8], text: &str) -> Result<(
     match fs::metadata(rt, text) {
         Ok(found) if is_output(rt, &found) => Err(unread(name, IS_OUTPUT)),
         Ok(found) if found.is_file() => Ok(()),
+        Ok(found) if found.is_dir() => Err(unread(name, "it is a folder")),
         Ok(_) => Err(unread(
             name,
-            "it is no regular file, and a range is read of one alone",
+            "it is no regular file: copy its bytes into one first",
         )),
         Err(e) => Err(unreadable(name, code_of(e))),
     }
