@@ -1,3 +1,4 @@
 pub mod Due
 pub mod Pieces
 pub mod Moments
+pub mod Readings
