@@ -86,6 +86,11 @@ class Cluster:
             self.kept = Client(self.address, timeout=120)
         return self.kept
 
+    def forget_client(self) -> None:
+        if hasattr(self, "kept"):
+            self.kept.close()
+            del self.kept
+
     def wait(self, count: int) -> None:
         if not wait_for(lambda: self.count() == count):
             raise AssertionError(f"{self.count()} workers in place of {count}: {read(self.log.name).decode()[-3000:]}")
@@ -96,8 +101,7 @@ class Cluster:
         return [pid for pid, parent, line in processes() if parent in nannies and "spawn_main" in line]
 
     def close(self) -> None:
-        if hasattr(self, "kept"):
-            self.kept.close()
+        self.forget_client()
         for it in reversed(self.running):
             it.terminate()
         for it in reversed(self.running):
@@ -328,6 +332,28 @@ class Clusters(Targets, ClusterYard):
             self.run_all(sealed, status=2, says="the workers have different primary keys")
             self.assertFalse(os.path.exists(self.at("sealed")))
             self.assertEqual(self.record(sealed), {})
+
+    def test_a_scheduler_that_dies_is_named_and_a_later_run_goes_on(self):
+        cluster, texts = Cluster(), self.make_texts(60, 20_000)
+        try:
+            sealed = self.manifest("seal.toml", operation="encrypt", source="plain", target="sealed", batch_files=1)
+            running = self.start("run", sealed, "--scheduler", cluster.address)
+            self.assertTrue(wait_for(lambda: lines_of(self.at("seal.fleet/record.jsonl")) > 0))
+            running.send_signal(signal.SIGSTOP)
+            self.assertLess(lines_of(self.at("seal.fleet/record.jsonl")), len(texts))
+            cluster.forget_client()
+            cluster.running[0].kill()
+            running.send_signal(signal.SIGCONT)
+            out, err = running.communicate(timeout=SECONDS)
+        finally:
+            cluster.close()
+        self.assertEqual((running.returncode, out), (2, ""), err)
+        self.assertEqual(
+            err, f"fleet: {cluster.address}: the scheduler is gone: start it again, and run again; what is done stays done\n"
+        )
+        self.expect_streams(sealed, texts, "sealed", all_done=False)
+        self.run_all(sealed, says=" were done before")
+        self.expect_streams(sealed, texts, "sealed")
 
     def test_a_scheduler_that_is_not_there_is_named(self):
         sealed = self.manifest("seal.toml", operation="encrypt", source="plain", target="sealed")

@@ -1,11 +1,13 @@
 """The engine for many machines: a cluster of Dask distributed, by its client."""
 import ipaddress
+import logging
 import os
 import tempfile
 import threading
 import time
 import zipfile
 from collections.abc import Iterable, Iterator
+from contextlib import contextmanager, suppress
 from urllib.parse import urlsplit
 
 from tink_fleet import calls
@@ -19,6 +21,8 @@ POLL_SECONDS = 0.005
 LOOK_SECONDS = 2.0
 # A worker that died is started again by its nanny, which takes a while on a busy machine.
 RESTART_SECONDS = 60.0
+# What these say of a lost connection this engine says in a line of its own.
+LOGGERS = ("asyncio", "distributed", "distributed.client", "tornado.application")
 # Guards what a worker knows of runs: a worker may have several threads.
 RUNS = threading.Lock()
 
@@ -48,6 +52,8 @@ class DaskEngine:
             raise FleetError(
                 "distributed: this Python has no Dask distributed: install python3-distributed, and run fleet by /usr/bin/python3"
             ) from None
+        for name in LOGGERS:
+            logging.getLogger(name).setLevel(logging.CRITICAL)
         try:
             self.client = Client(address, name="tink-fleet", timeout=CONNECT_SECONDS)
         except (OSError, TimeoutError) as e:
@@ -57,9 +63,27 @@ class DaskEngine:
         self.token = ""
         self.upload()
 
+    @contextmanager
+    def connected(self) -> Iterator[None]:
+        """An error of the connection means that the scheduler is gone."""
+        try:
+            yield
+        except OSError as e:
+            raise self.gone() from e
+
+    def threads(self) -> dict[str, int]:
+        """How many threads each worker has."""
+        with self.connected():
+            return self.client.nthreads()
+
+    def ask(self, function, *words) -> dict:
+        """The answer of each worker. It is an error where the worker gave none."""
+        with self.connected():
+            return self.client.run(function, *words, on_error="return")
+
     @property
     def slots(self) -> int:
-        return sum(self.client.nthreads().values())
+        return sum(self.threads().values())
 
     def upload(self) -> None:
         """Sends this package to the workers, those too that come later."""
@@ -70,7 +94,8 @@ class DaskEngine:
             with zipfile.ZipFile(path, "w") as archive:
                 for name, text in calls.package_files().items():
                     archive.writestr(f"tink_fleet/{name}", text)
-            self.client.register_worker_plugin(UploadFile(path), name="tink_fleet")
+            with self.connected():
+                self.client.register_worker_plugin(UploadFile(path), name="tink_fleet")
 
     def begin(self, fleet: str, run: str, say) -> None:
         """Ends what a driver that is no more left at work: its workers stop after the file that they are at."""
@@ -78,10 +103,10 @@ class DaskEngine:
         self.wait_for_a_worker()
         deadline, has_said = time.monotonic() + PATIENCE_SECONDS, False
         while True:
-            if not self.client.nthreads():
+            if not self.threads():
                 raise FleetError(f"{self.address}: the scheduler has no worker: start `dask worker {self.address}`")
             # A worker that is about to leave answers by an error, and is asked again.
-            busy = self.client.run(begin_run, fleet, run, on_error="return")
+            busy = self.ask(begin_run, fleet, run)
             if all(it == 0 for it in busy.values()):
                 return
             if time.monotonic() > deadline:
@@ -98,14 +123,14 @@ class DaskEngine:
 
     def wait_for_a_worker(self) -> None:
         deadline = time.monotonic() + CONNECT_SECONDS
-        while not self.client.nthreads() and time.monotonic() < deadline:
+        while not self.threads() and time.monotonic() < deadline:
             time.sleep(0.2)
 
     def describe(self, call: dict) -> list[dict]:
         """What each worker is like. One that does not answer is asked again."""
         deadline = time.monotonic() + RESTART_SECONDS
         while True:
-            answers = self.client.run(perform_here, call, on_error="return")
+            answers = self.ask(perform_here, call)
             silent = {worker: it for worker, it in answers.items() if not isinstance(it, list)}
             if answers and not silent:
                 return [it[0] for it in answers.values()]
@@ -142,12 +167,13 @@ class DaskEngine:
         """Submits a call, to another worker than those that it is to avoid, where there is one."""
         if call is None:
             return False
-        there = self.client.nthreads()
+        there = self.threads()
         better = sorted(there.keys() - set(call.get("avoid", ())))
         only = better if 0 < len(better) < len(there) else None
         self.number += 1
         key = f"tink-fleet-{self.token}-{self.number}"
-        sent.put(call, self.client.submit(perform_here, call, key=key, pure=False, workers=only), only)
+        with self.connected():
+            sent.put(call, self.client.submit(perform_here, call, key=key, pure=False, workers=only), only)
         return True
 
     def free_stranded(self, sent: "Sent") -> None:
@@ -157,11 +183,12 @@ class DaskEngine:
         if time.monotonic() < sent.looked + LOOK_SECONDS or not any(only for _, _, only in sent.out.values()):
             return
         sent.looked = time.monotonic()
-        there = self.client.nthreads().keys()
+        there = self.threads().keys()
         for key, (call, future, only) in list(sent.out.items()):
             if only and not there & set(only):
                 del sent.out[key]
-                future.cancel()
+                with self.connected():
+                    future.cancel()
                 self.send({**call, "avoid": []}, sent)
 
     def gone(self) -> FleetError:
@@ -183,7 +210,8 @@ class DaskEngine:
         raise FleetError(f"{self.address}: a worker failed in an unexpected way: {error!r}")
 
     def close(self) -> None:
-        self.client.close()
+        with suppress(OSError):
+            self.client.close()
 
 
 class Sent:
@@ -206,8 +234,10 @@ class Sent:
         return self.out.pop(future.key, (None,))[0]
 
     def cancel(self) -> None:
-        for _, future, _ in self.out.values():
-            future.cancel()
+        # A scheduler that is gone has nothing to cancel.
+        with suppress(OSError):
+            for _, future, _ in self.out.values():
+                future.cancel()
 
 
 def runs_here() -> dict:
