@@ -261,7 +261,7 @@ def terminals():
         check(b"standard output: it is a terminal, and ciphertext is no text" in shown and len(shown) < 200, f"ciphertext on a terminal: {shown[:200]}")
         check(len(on_terminal([*words, "--force"], data)) >= len(TEXT), f"{words} --force")
         terminals_by_name(words, data)
-    for words in (["new", "AES128_GCM", "-o", "-"], ["unwrap", "-k", "master.json", "--aad", "host", "-o", "-", "keys.json.wrapped"], ["convert", "keys.json", "-o", "-", "--format", "json"]):
+    for words in (["new", "AES128_GCM", "-o", "-"], ["unwrap", "-k", "master.json", "--aad", "host", "-o", "-", "keys.json.wrapped"], ["convert", "keys.json", "-o", "-", "--format", "json"], ["convert", "keys.json", "-o", "-", "--format", "binary"]):
         shown = on_terminal(words, "/dev/null")
         check(b"standard output: it is a terminal, and keys are not shown on one" in shown and b"{" not in shown, f"keys on a terminal: {shown[:200]}")
     check(b"tink: keys in files" in on_terminal([], "/dev/null"), "help on a terminal")
