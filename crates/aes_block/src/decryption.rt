@@ -3,7 +3,7 @@ ghost use Rattle.std.specs.Prelude.{◌≡◌, ◌+◌, ◌<◌, ◌≤◌};
 ghost use Rattle.standards.specs.Aes.{times};
 ghost use Rattle.standards.specs.AesInverse.{inv_cipher, inv_mix_at, inv_mix_byte, inv_mix_columns, inv_shift_rows, inv_sub_byte, inv_sub_bytes};
 
-use crate::encryption::{add_round_key, joined};
+use crate::encryption::{add_round_key, block_of_columns};
 use crate::tables::{INV_SUB_BYTES, TIMES_ELEVEN, TIMES_FOURTEEN, TIMES_NINE, TIMES_THIRTEEN};
 
 #[inline(always)]
@@ -67,7 +67,7 @@ fn inv_mix_column(s: &[u8; 16], i: usize) -> [u8; 4]
 fn inv_mix_columns(s: &[u8; 16]) -> [u8; 16]
     ensures { result ≡ inv_mix_columns s.now }
 {
-    joined(
+    block_of_columns(
         inv_mix_column(s, 0),
         inv_mix_column(s, 4),
         inv_mix_column(s, 8),

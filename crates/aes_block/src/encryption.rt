@@ -72,7 +72,7 @@ fn sub_shift_and_mix(s: [u8; 16]) -> [u8; 16]
 
 // Four columns, or words, as one block.
 #[inline(always)]
-pub(crate) fn joined(v: [u8; 4], w: [u8; 4], x: [u8; 4], y: [u8; 4]) -> [u8; 16]
+pub(crate) fn block_of_columns(v: [u8; 4], w: [u8; 4], x: [u8; 4], y: [u8; 4]) -> [u8; 16]
     ensures { result ≡ v ++ w ++ x ++ y }
 {
     let [a0, a1, a2, a3] = v;

@@ -2,7 +2,7 @@
 ghost use Rattle.std.specs.Prelude.{◌≡◌, ◌+◌, ◌*◌, ◌<◌, ◌≤◌, length, take};
 ghost use Rattle.standards.specs.AesKeys.{IsSize, mixed, next_word, rot_word, round_key, round_keys, schedule, sub_word, word_at, xor_word};
 
-use crate::encryption::{joined, sub_byte};
+use crate::encryption::{block_of_columns, sub_byte};
 use crate::tables::POWERS;
 
 fn sub_word(w: [u8; 4]) -> [u8; 4]
@@ -28,7 +28,7 @@ fn xor_word(v: [u8; 4], w: [u8; 4]) -> [u8; 4]
 }
 
 // What word i - 1, `w`, gives to word i.
-fn mixed(n: usize, w: [u8; 4], i: usize) -> [u8; 4]
+fn temp_word(n: usize, w: [u8; 4], i: usize) -> [u8; 4]
     requires size { IsSize n }
     requires low { n ≤ i }
     requires high { i < 4 * n + 28 }
@@ -49,7 +49,7 @@ fn next_word(n: usize, far: [u8; 4], near: [u8; 4], i: usize) -> [u8; 4]
     requires high { i < 4 * n + 28 }
     ensures { result ≡ next_word n far near i }
 {
-    xor_word(far, mixed(n, near, i))
+    xor_word(far, temp_word(n, near, i))
 }
 
 fn word_at(key: &[u8], i: usize) -> [u8; 4]
@@ -80,7 +80,7 @@ fn round_key(words: &[[u8; 4]; 60], r: usize) -> [u8; 16]
     requires { r < 15 }
     ensures { result ≡ round_key words.now r }
 {
-    joined(
+    block_of_columns(
         words[4 * r],
         words[4 * r + 1],
         words[4 * r + 2],

@@ -10,8 +10,8 @@ ghost use Rattle.cipher_modes.specs.PaddedVec.{TellsPad, TellsUnpad};
 
 use crate::backends::{BlockModeDecClosure, BlockModeEncClosure};
 use crate::padded::{
-    PaddedVecError, begun, decrypt_front, decrypt_message, decrypt_vec, encrypt_message,
-    encrypt_vec,
+    PaddedVecError, decrypt_front, decrypt_message, decrypt_vec, encrypt_message, encrypt_vec,
+    first_bytes,
 };
 use crate::padding::{PadError, Padding, UnpadError};
 use cipher::{BlockCtx, BlocksCtx, InOut, InOutBuf, InOutBufReserved, NotEqualError};
@@ -150,7 +150,7 @@ pub trait BlockModeEncrypt<const B: usize>: Sized + Drop {
     {
         let InOutBufReserved { output, input, len } = bytes;
         let made = encrypt_message::<P, Self, B>(&mut self, &mut *output, input, len);
-        begun(output, made)
+        first_bytes(output, made)
     }
 
     /// Like `encrypt_padded_inout` of the message that is the first `len` bytes of a buffer.
@@ -167,7 +167,7 @@ pub trait BlockModeEncrypt<const B: usize>: Sized + Drop {
             enciphered step self B (padded P.padding B (take len buffer.old)) ≡ Some made.now) }
     {
         let made = encrypt_message::<P, Self, B>(&mut self, &mut *buffer, &[], len);
-        begun(buffer, made)
+        first_bytes(buffer, made)
     }
 
     /// Like `encrypt_padded_inout` of a message and another buffer.
@@ -184,7 +184,7 @@ pub trait BlockModeEncrypt<const B: usize>: Sized + Drop {
             enciphered step self B (padded P.padding B message.now) ≡ Some made.now) }
     {
         let made = encrypt_message::<P, Self, B>(&mut self, &mut *output, message, message.len());
-        begun(output, made)
+        first_bytes(output, made)
     }
 
     /// Pads a message and encrypts it in a vector.
@@ -325,7 +325,7 @@ pub trait BlockModeDecrypt<const B: usize>: Sized + Drop {
     {
         let InOutBuf { output, input } = bytes;
         let made = decrypt_message::<P, Self, B>(&mut self, &mut *output, input);
-        begun(output, made)
+        first_bytes(output, made)
     }
 
     /// Like `decrypt_padded_inout` of a buffer in its place.
@@ -338,7 +338,7 @@ pub trait BlockModeDecrypt<const B: usize>: Sized + Drop {
             (λ _. message_in P.unpadded B (deciphered step self B buffer.old) ≡ None) }
     {
         let made = decrypt_message::<P, Self, B>(&mut self, &mut *buffer, &[]);
-        begun(buffer, made)
+        first_bytes(buffer, made)
     }
 
     /// Decrypts bytes in a prefix of another buffer. The answer is the length of the message.
@@ -381,7 +381,7 @@ pub trait BlockModeDecrypt<const B: usize>: Sized + Drop {
             (λ _. message_in P.unpadded B (deciphered step self B input.now) ≡ None) }
     {
         let made = self.decrypt_padded_b2b_len::<P>(input, &mut *output);
-        begun(output, made)
+        first_bytes(output, made)
     }
 
     /// Decrypts bytes in a vector.

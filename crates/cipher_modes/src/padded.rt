@@ -91,7 +91,7 @@ pub(crate) fn decrypt_message<P: Padding, M: BlockModeDecrypt<B>, const B: usize
 }
 
 // the first bytes of an output, as many as were made
-pub(crate) fn begun<E: Drop>(output: &[u8], made: Result<usize, E>) -> Result<&[u8], E>
+pub(crate) fn first_bytes<E: Drop>(output: &[u8], made: Result<usize, E>) -> Result<&[u8], E>
     requires { IfOk made (λ n. n ≤ length output.now) }
     ensures { IsFrontOf output.now made result }
 {

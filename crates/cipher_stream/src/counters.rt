@@ -29,7 +29,7 @@ pub trait StreamCipherCounter: Copy + Drop {
 }
 
 // the same number, of which it is told that it lies between the least and the greatest
-pub(crate) fn told<C: StreamCipherCounter>(counter: C) -> C
+pub(crate) fn with_range<C: StreamCipherCounter>(counter: C) -> C
     ensures same { result ≡ counter }
     ensures within { C.value counter ≤ C.most }
 {

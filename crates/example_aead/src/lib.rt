@@ -1,7 +1,7 @@
 //! Encrypts the value of a row, and binds it to the row's name.
 #![tactic(auto)]
 
-ghost use Rattle.tink_io.specs.Told.{Replies};
+ghost use Rattle.tink_io.specs.Answering.{Replies};
 
 use std::alloc::Global;
 use tink::{Aead, Draws, TinkError};

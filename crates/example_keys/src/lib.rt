@@ -2,7 +2,7 @@
 #![tactic(auto)]
 
 ghost use Rattle.keyset_model.specs.Edits as edits;
-ghost use Rattle.tink_keysets.specs.Told.{Edits};
+ghost use Rattle.tink_keysets.specs.Editing.{Edits};
 
 use example_aead::encrypt_value;
 use std::alloc::Global;
@@ -41,7 +41,7 @@ pub fn retire(keys: &mut Manager, id: u32) -> Result<(), TinkError>
 ///
 /// # Errors
 /// Those of `tink::aead::new`; `RandomFault`; `OutOfMemory`.
-pub fn encrypted(
+pub fn encrypt_row(
     alloc: Global,
     registry: &Registry<Managers>,
     keyset: &Handle,
@@ -59,7 +59,7 @@ pub fn encrypted(
 ///
 /// # Errors
 /// Those of `tink::aead::new`; `DecryptFailed` if no key decrypts the ciphertext under this name; `OutOfMemory`.
-pub fn decrypted(
+pub fn decrypt_row(
     alloc: Global,
     registry: &Registry<Managers>,
     keyset: &Handle,

@@ -6,7 +6,7 @@ use Rattle.sqlite.specs.declared.error.Error.{Error}
 use Rattle.sqlite.specs.declared.types.Value.TheVariants.{Text, Blob}
 use Rattle.sqlite.specs.State.{State, Executes, HasCleanDisk, QueriesRow}
 use Rattle.tink_io.specs.declared.error.Kind.{Kind}
-use Rattle.tink_io.specs.Told.{Answers, Replies}
+use Rattle.tink_io.specs.Answering.{Answers, Replies}
 use Rattle.example_store.specs.declared.StoreError.{StoreError}
 use Rattle.example_store.specs.declared.StoreError.TheVariants.{Tink, Sql}
 

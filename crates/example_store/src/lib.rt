@@ -5,7 +5,7 @@ ghost use Rattle.example_store.specs.Rows.{IsCreated, IsGot, IsGetError, IsPut, 
 ghost use Rattle.sqlite.specs.Held.{state};
 ghost use Rattle.sqlite.specs.State.{HasCleanDisk};
 ghost use Rattle.std.specs.Prelude.{◌≡◌, IfErr, IfOk, OnOk};
-ghost use Rattle.tink_io.specs.Told.{Answers};
+ghost use Rattle.tink_io.specs.Answering.{Answers};
 
 use example_aead::encrypt_value;
 use sqlite::{Alter, Connection, Row, params};

@@ -3,8 +3,8 @@
 
 ghost use Rattle.std.specs.Prelude.{Ok};
 ghost use Rattle.keyset_model.specs.Edits as edits;
-ghost use Rattle.tink_io.specs.Told.{Answers};
-ghost use Rattle.tink_keysets.specs.Told.{Edits};
+ghost use Rattle.tink_io.specs.Answering.{Answers};
+ghost use Rattle.tink_keysets.specs.Editing.{Edits};
 ghost use Rattle.tink_mac.specs.Tokens.{IsAccepted, IsSigning, IsVerifying};
 ghost use Rattle.tink_sets.specs.Groups.{group_of};
 

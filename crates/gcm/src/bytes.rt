@@ -5,7 +5,7 @@ ghost use Rattle.standards.specs.Lists.{xor_bytes};
 use cipher::xor_in_place;
 
 // A block with bytes added to its front.
-pub(crate) fn xored(block: &[u8; 16], bytes: &[u8]) -> [u8; 16]
+pub(crate) fn xor_of(block: &[u8; 16], bytes: &[u8]) -> [u8; 16]
     requires { length bytes.now ≤ 16 }
     ensures { result ≡ xor_bytes block.now bytes.now }
 {

@@ -6,7 +6,7 @@ ghost use Rattle.cipher_stream.specs.ByteStream.{HasRoom, bytes_from, to_come};
 ghost use Rattle.cipher_stream.specs.Keystream.{xored};
 ghost use Rattle.gcm.specs.Orders.{counted};
 
-use crate::order::{ByteOrder, counted};
+use crate::order::{ByteOrder, counter_after};
 use cipher::{BlockCipherEncrypt, InnerIvInit};
 use cipher_stream::{StreamCipher, StreamCipherCore, StreamCipherCoreWrapper};
 use ctr::{CtrCore, flavors};
@@ -73,6 +73,6 @@ pub(crate) fn apply_keystream<C: BlockCipherEncrypt<16>>(
     if n == bytes.len() {
         return;
     }
-    let last = counted(order, block, (1 << 32) - 1);
+    let last = counter_after(order, block, (1 << 32) - 1);
     apply_counted(c, order, &last, &mut bytes[n..]);
 }

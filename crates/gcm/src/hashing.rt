@@ -79,7 +79,7 @@ pub(crate) fn absorb_lengths<K: Products>(
 }
 
 // Data, text and their lengths under the key.
-pub(crate) fn hashed<K: Products>(order: ByteOrder, key: &K, aad: &[u8], text: &[u8]) -> [u8; 16]
+pub(crate) fn hash_of<K: Products>(order: ByteOrder, key: &K, aad: &[u8], text: &[u8]) -> [u8; 16]
     ensures { result ≡ block_of order (hash_of order (K.element key.now) aad.now text.now) }
 {
     let data = absorb_padded(order, key, 0, aad);
@@ -97,7 +97,7 @@ pub(crate) fn hashed_once(order: ByteOrder, key: &HashKey, aad: &[u8], text: &[u
     if is_long(aad) || is_long(text) {
         return hashed_long(order, key, aad, text);
     }
-    hashed(order, key, aad, text)
+    hash_of(order, key, aad, text)
 }
 
 // By the large tables.
@@ -105,7 +105,7 @@ pub(crate) fn hashed_once(order: ByteOrder, key: &HashKey, aad: &[u8], text: &[u
 fn hashed_long(order: ByteOrder, key: &HashKey, aad: &[u8], text: &[u8]) -> [u8; 16]
     ensures { result ≡ block_of order (hash_of order key.now aad.now text.now) }
 {
-    hashed(order, &LongHashKey::new(key), aad, text)
+    hash_of(order, &LongHashKey::new(key), aad, text)
 }
 
 // Whether large tables, once made, take less time than the small ones take longer.

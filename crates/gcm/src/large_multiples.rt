@@ -52,7 +52,7 @@ impl Model for LargeMultiples {
 
 // The multiple by the lowest eight bits, from the table of 16.
 #[inline(always)]
-fn joined(m: &Multiples, n: usize) -> u128
+fn multiple_by_byte(m: &Multiples, n: usize) -> u128
     requires { n < 256 }
     ensures { result ≡ multiple8 m.now n }
 {
@@ -65,7 +65,7 @@ fn make_large_table(m: &Multiples) -> [u128; 256]
 {
     let mut table = [0u128; 256];
     for n in 0..256usize {
-        table[n] = joined(m, n);
+        table[n] = multiple_by_byte(m, n);
     }
     table
 }

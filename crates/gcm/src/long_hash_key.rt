@@ -39,7 +39,7 @@ fn pair(p: &LargeMultiples, q: &LargeMultiples, a: &[u8; 16], b: &[u8; 16], i: u
 
 // What was shifted out, a byte more: its highest bit is the coefficient of x^128.
 #[inline(always)]
-fn carried(high: u128, low: u128) -> u128
+fn carry_of(high: u128, low: u128) -> u128
     ensures { result ≡ carried high low }
 {
     (low >> 8) ^ (high << 120)
@@ -47,7 +47,7 @@ fn carried(high: u128, low: u128) -> u128
 
 // The product with x^128, where the lowest eight bits are 0.
 #[inline(always)]
-fn reduced(low: u128) -> u128
+fn rest_of(low: u128) -> u128
     requires { low % 256 ≡ 0 }
     ensures { result ≡ rest low }
 {
@@ -73,10 +73,10 @@ fn sum_of_long_products(
     let mut high = pair(p, q, &a, &b, 0) ^ pair(r, s, &c, &d, 0);
     let mut low = 0u128;
     for i in 1..16usize {
-        low = carried(high, low);
+        low = carry_of(high, low);
         high = (high >> 8) ^ (pair(p, q, &a, &b, i) ^ pair(r, s, &c, &d, i));
     }
-    high ^ reduced(low)
+    high ^ rest_of(low)
 }
 
 impl LongHashKey {

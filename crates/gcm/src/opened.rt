@@ -8,7 +8,7 @@ use crate::counter::apply_keystream;
 use crate::hash_key::{HashKey, Products};
 use crate::hashing::{absorb_lengths, absorb_padded, is_long};
 use crate::long_hash_key::LongHashKey;
-use crate::order::{ByteOrder, block_of, counted};
+use crate::order::{ByteOrder, block_of, counter_after};
 use cipher::BlockCipherEncrypt;
 
 // The blocks of a part, and their bytes.
@@ -66,7 +66,7 @@ fn absorb_opened<C: BlockCipherEncrypt<16>, K: Products>(
     for i in 0..ciphertext.len().div_ceil(PART) {
         let start = PART * i;
         let n = (ciphertext.len() - start).min(PART);
-        let from = counted(ByteOrder::LittleEndian, block, (LANES * i) as u64);
+        let from = counter_after(ByteOrder::LittleEndian, block, (LANES * i) as u64);
         let next = absorb_part(c, &from, key, state, &ciphertext[start..start + n]);
         state = next;
     }

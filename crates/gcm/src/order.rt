@@ -48,7 +48,7 @@ pub(crate) fn pair_of(order: ByteOrder, a: u64, b: u64) -> [u8; 16]
 }
 
 // The block with i added to the 32 bits that count, modulo their size.
-pub(crate) fn counted(order: ByteOrder, block: &[u8; 16], i: u64) -> [u8; 16]
+pub(crate) fn counter_after(order: ByteOrder, block: &[u8; 16], i: u64) -> [u8; 16]
     ensures { result ≡ counted order block.now i }
 {
     let mut out = *block;

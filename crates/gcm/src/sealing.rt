@@ -6,13 +6,13 @@ ghost use Rattle.standards.specs.Gcm.{first_block, gcm, gcm_tag, gcm_text};
 ghost use Rattle.gcm.specs.Answers.{IsOpened, IsSealed, IsTried};
 ghost use Rattle.gcm.specs.Limits.{MOST_GCM};
 
-use crate::bytes::{is_same, xored};
+use crate::bytes::{is_same, xor_of};
 use crate::counter::apply_keystream;
 use crate::errors::{GcmError, GcmResult};
-use crate::hashing::{ghash_key, hashed};
+use crate::hashing::{ghash_key, hash_of};
 use crate::limits::check_lengths;
 use crate::long_hash_key::LongHashKey;
-use crate::order::{ByteOrder, counted};
+use crate::order::{ByteOrder, counter_after};
 use cipher::BlockCipherEncrypt;
 
 // The most bytes of a text (5.2.1.1), two blocks less than the counter has.
@@ -44,7 +44,7 @@ fn apply_text<C: BlockCipherEncrypt<16>>(c: &C, nonce: &[u8], bytes: &mut [u8])
     requires text { length bytes.old ≤ 2 ^ 36 }
     ensures { bytes.new ≡ gcm_text (C.encrypts c.now) nonce.now bytes.old }
 {
-    let block = counted(ByteOrder::BigEndian, &first_block(nonce), 1);
+    let block = counter_after(ByteOrder::BigEndian, &first_block(nonce), 1);
     apply_keystream(c, ByteOrder::BigEndian, &block, bytes);
 }
 
@@ -60,8 +60,8 @@ fn tag_of<C: BlockCipherEncrypt<16>>(
 {
     let mut mask = first_block(nonce);
     g.cipher.encrypt_block(&mut mask);
-    let sum = hashed(ByteOrder::BigEndian, &g.subkey, aad, ciphertext);
-    xored(&sum, &mask)
+    let sum = hash_of(ByteOrder::BigEndian, &g.subkey, aad, ciphertext);
+    xor_of(&sum, &mask)
 }
 
 // Ciphertext and tag of a text whose blocks are counted, in its place: `bytes` is the text and room for the tag.

@@ -8,7 +8,7 @@ ghost use Rattle.gcm.specs.Answers.{IsOpened, IsSealed, IsTried};
 ghost use Rattle.gcm.specs.Limits.{MOST_GCM_SIV};
 ghost use Rattle.gcm.specs.Siv.{IsSivKeySize, cipher_of, sealed_under, tag_under};
 
-use crate::bytes::{is_same, xored};
+use crate::bytes::{is_same, xor_of};
 use crate::counter::apply_keystream;
 use crate::errors::{GcmError, GcmResult};
 use crate::hash_key::HashKey;
@@ -73,7 +73,7 @@ fn tag_of<C: BlockCipherEncrypt<16>>(c: &C, sum: &[u8; 16], nonce: &[u8]) -> [u8
     requires { length nonce.now ≡ 12 }
     ensures { result ≡ tag_under (C.encrypts c.now) sum.now nonce.now }
 {
-    let mut tag = xored(sum, nonce);
+    let mut tag = xor_of(sum, nonce);
     tag[15] &= 0x7f;
     c.encrypt_block(&mut tag);
     tag

@@ -14,7 +14,7 @@ const REDUCTION: u128 = 0x87;
 const END: u8 = 0x80;
 
 // A block times two, as a number whose high byte is first.
-pub(crate) fn doubled(block: [u8; 16]) -> [u8; 16]
+pub(crate) fn double_block(block: [u8; 16]) -> [u8; 16]
     ensures { result ≡ double_block block }
 {
     let n = u128::from_be_bytes(block);
@@ -28,7 +28,7 @@ fn subkey<C: BlockCipherEncrypt<16>>(c: &C) -> [u8; 16]
 {
     let mut block = [0u8; 16];
     c.encrypt_block(&mut block);
-    doubled(block)
+    double_block(block)
 }
 
 // The chain over the first n blocks, from the block `start` on.
@@ -62,12 +62,12 @@ pub(crate) fn bit_padded(rest: &[u8]) -> [u8; 16]
 }
 
 // The last block under its subkey: padded with one bit and zeros unless it is whole.
-fn masked<C: BlockCipherEncrypt<16>>(c: &C, rest: &[u8]) -> [u8; 16]
+fn last_block<C: BlockCipherEncrypt<16>>(c: &C, rest: &[u8]) -> [u8; 16]
     requires { length rest.now ≤ 16 }
     ensures { result ≡ last_block (C.encrypts c.now) rest.now }
 {
     let first = subkey(c);
-    let second = doubled(first);
+    let second = double_block(first);
     if rest.len() == 16 {
         let mut block = first;
         block.copy_from_slice(rest);
@@ -84,7 +84,7 @@ pub(crate) fn cmac_from<C: BlockCipherEncrypt<16>>(c: &C, start: [u8; 16], text:
     ensures { result ≡ cmac_from (C.encrypts c.now) start text.now }
 {
     let n = text.len().saturating_sub(1) / 16;
-    let last = masked(c, &text[16 * n..]);
+    let last = last_block(c, &text[16 * n..]);
     let mut block = chain(c, start, text, n);
     xor_in_place(&mut block, &last);
     c.encrypt_block(&mut block);

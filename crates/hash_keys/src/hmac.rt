@@ -40,7 +40,7 @@ fn key_block(h: Hash, key: &[u8]) -> [u8; MAX_BLOCK]
 }
 
 // Each byte xor one byte.
-fn padded(block: &[u8; MAX_BLOCK], byte: u8) -> [u8; MAX_BLOCK]
+fn xor_byte(block: &[u8; MAX_BLOCK], byte: u8) -> [u8; MAX_BLOCK]
     ensures { result ≡ pad block.now byte }
 {
     let mut out = [0u8; MAX_BLOCK];
@@ -68,8 +68,8 @@ impl HmacKey {
     {
         let size = h.block_size();
         let block = key_block(h, key);
-        let inner_pad = padded(&block, INNER_PAD);
-        let outer_pad = padded(&block, OUTER_PAD);
+        let inner_pad = xor_byte(&block, INNER_PAD);
+        let outer_pad = xor_byte(&block, OUTER_PAD);
         let mut inner = Hasher::new(h);
         inner.update(&inner_pad[..size]);
         let mut outer = Hasher::new(h);

@@ -6,7 +6,7 @@ ghost use Rattle.standards.specs.Cmac.{cmac, double_block};
 ghost use Rattle.standards.specs.Lists.{xor_bytes};
 ghost use Rattle.standards.specs.Siv.{s2v, s2v_data, xor_end};
 
-use crate::cmac::{bit_padded, chain, cmac_from, cmac_of, doubled};
+use crate::cmac::{bit_padded, chain, cmac_from, cmac_of, double_block};
 use cipher::{BlockCipherEncrypt, xor_in_place};
 
 // D after the data, which is a component also where it is empty.
@@ -14,7 +14,7 @@ fn s2v_data<C: BlockCipherEncrypt<16>>(c: &C, aad: &[u8]) -> [u8; 16]
     ensures { result ≡ s2v_data (C.encrypts c.now) aad.now }
 {
     let code = cmac_of(c, aad);
-    let mut d = doubled(cmac_of(c, &[0u8; 16]));
+    let mut d = double_block(cmac_of(c, &[0u8; 16]));
     xor_in_place(&mut d, &code);
     d
 }
@@ -24,7 +24,7 @@ fn cmac_padded<C: BlockCipherEncrypt<16>>(c: &C, d: [u8; 16], text: &[u8]) -> [u
     requires { length text.now < 16 }
     ensures { result ≡ cmac (C.encrypts c.now) (xor_bytes (double_block d) (bit_padded text.now)) }
 {
-    let mut block = doubled(d);
+    let mut block = double_block(d);
     xor_in_place(&mut block, &bit_padded(text));
     cmac_of(c, &block)
 }

@@ -5,7 +5,7 @@ use Rattle.tink_proto.specs.declared.messages.keys.Key.{Key}
 use Rattle.tink_proto.specs.declared.messages.keys.KeyData.{KeyData}
 use Rattle.tink_proto.specs.declared.messages.keys.KeyTemplate.{KeyTemplate}
 use Rattle.tink_proto.specs.declared.messages.keys.Keyset.{Keyset}
-use Rattle.keyset_model.specs.Commands.{Add, Destroy, Disable, SetPrimary, after_all}
+use Rattle.keyset_model.specs.Operations.{Add, Destroy, Disable, SetPrimary, after_all}
 use Rattle.keyset_model.specs.Edits.{enable, disable, destroy, delete, set_primary}
 use Rattle.keyset_model.specs.Adding.{fresh_id}
 use Rattle.keyset_model.specs.Entries.{output_prefix}

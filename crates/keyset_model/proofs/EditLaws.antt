@@ -13,8 +13,8 @@ use Rattle.tink_proto.specs.declared.messages.keys.KeyData.{KeyData}
 use Rattle.tink_proto.specs.declared.messages.keys.Keyset.{Keyset}
 use Rattle.tink_proto.specs.Enums.{status_number}
 use Rattle.keyset_model.specs.Keys.{has_id}
-use Rattle.keyset_model.specs.Validity.{is_held}
-use Rattle.keyset_model.specs.Commands.{keyset_after}
+use Rattle.keyset_model.specs.Validity.{fits_handle}
+use Rattle.keyset_model.specs.Operations.{keyset_after}
 use Rattle.keyset_model.specs.Edits.{as_destroyed, is_live, status_of, with_first, with_status, without_first}
 use Rattle.keyset_model.specs.Laws.{RefusedEditLeaves}
 
@@ -56,18 +56,18 @@ not_both s live gone =
 
 -- a key that is enabled or disabled has data, so it is held under every status
 live_held : (d : Option KeyData) (s t : ℤ) (id : ℕ) (prefix : ℤ) → is_live s ≡ true
-    → is_held (record { key_data = d; status = s; key_id = id; output_prefix_type = prefix }) ≡ true
-    → is_held (record { key_data = d; status = t; key_id = id; output_prefix_type = prefix }) ≡ true
+    → fits_handle (record { key_data = d; status = s; key_id = id; output_prefix_type = prefix }) ≡ true
+    → fits_handle (record { key_data = d; status = t; key_id = id; output_prefix_type = prefix }) ≡ true
 live_held (Some d) s t id prefix live held = held
 live_held None s t id prefix live held = absurd (not_both s live (both _ true held).0)
 
 pub held_with_status : (status : KeyStatusType) (id : ℕ) (keys : List Key) (s : ℤ) → status_of id keys ≡ Some s → is_live s ≡ true
-    → list_all is_held keys ≡ true → list_all is_held (with_first id (with_status status) keys) ≡ true
+    → list_all fits_handle keys ≡ true → list_all fits_handle (with_first id (with_status status) keys) ≡ true
 held_with_status status id keys s e live held =
-    all_first is_held (with_status status) s (λ k q h. live_held k.key_data k.status (status_number status) k.key_id k.output_prefix_type (subst (λ x. is_live x ≡ true) (sym q) live) h) id keys e held
+    all_first fits_handle (with_status status) s (λ k q h. live_held k.key_data k.status (status_number status) k.key_id k.output_prefix_type (subst (λ x. is_live x ≡ true) (sym q) live) h) id keys e held
 
-pub held_as_destroyed : (id : ℕ) (keys : List Key) (s : ℤ) → status_of id keys ≡ Some s → list_all is_held keys ≡ true → list_all is_held (with_first id as_destroyed keys) ≡ true
-held_as_destroyed id keys s e held = all_first is_held as_destroyed s (λ k q h. refl) id keys e held
+pub held_as_destroyed : (id : ℕ) (keys : List Key) (s : ℤ) → status_of id keys ≡ Some s → list_all fits_handle keys ≡ true → list_all fits_handle (with_first id as_destroyed keys) ≡ true
+held_as_destroyed id keys s e held = all_first fits_handle as_destroyed s (λ k q h. refl) id keys e held
 
 without_by : (test : Key → Bool) (here : Bool) (k : Key) (ks after : List Key) → list_all test (k ∷ ks) ≡ true → list_all test after ≡ true → list_all test (cond here ks (k ∷ after)) ≡ true
 without_by test true k ks after all later = (both (test k) (list_all test ks) all).1
@@ -77,11 +77,11 @@ pub all_without : (test : Key → Bool) (id : ℕ) (keys : List Key) → list_al
 all_without test id [] all = refl
 all_without test id (k ∷ ks) all = without_by test (has_id id k) k ks (without_first id ks) all (all_without test id ks (both (test k) (list_all test ks) all).1)
 
-pub held_without : (id : ℕ) (keys : List Key) → list_all is_held keys ≡ true → list_all is_held (without_first id keys) ≡ true
-held_without id keys held = all_without is_held id keys held
+pub held_without : (id : ℕ) (keys : List Key) → list_all fits_handle keys ≡ true → list_all fits_handle (without_first id keys) ≡ true
+held_without id keys held = all_without fits_handle id keys held
 
 pub all_more : (test : Key → Bool) (keys : List Key) (k : Key) → test k ≡ true → list_all test keys ≡ true → list_all test (keys ++ k ∷ []) ≡ true
 all_more test keys k one all = list_all-append test keys (k ∷ []) ∙ joined (list_all test keys) (list_all test (k ∷ [])) all (joined (test k) true one refl)
 
-pub held_more : (keys : List Key) (k : Key) → is_held k ≡ true → list_all is_held keys ≡ true → list_all is_held (keys ++ k ∷ []) ≡ true
-held_more keys k one held = all_more is_held keys k one held
+pub held_more : (keys : List Key) (k : Key) → fits_handle k ≡ true → list_all fits_handle keys ≡ true → list_all fits_handle (keys ++ k ∷ []) ≡ true
+held_more keys k one held = all_more fits_handle keys k one held

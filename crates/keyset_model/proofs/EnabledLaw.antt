@@ -7,8 +7,8 @@ use Rattle.std.proofs.lemmas.List.Elements.{All-contains, All-contains_itself, A
 use Rattle.tink_proto.specs.declared.enums.KeyStatusType.TheVariants.{Enabled}
 use Rattle.tink_proto.specs.declared.messages.keys.Key.{Key}
 use Rattle.tink_proto.specs.Enums.{status_number}
-use Rattle.keyset_model.specs.Commands as commands
-use Rattle.keyset_model.specs.Commands.{Command, Managed, Maker, after_all}
+use Rattle.keyset_model.specs.Operations as commands
+use Rattle.keyset_model.specs.Operations.{Operation, Managed, Maker, after_all}
 use Rattle.keyset_model.specs.Keys.{enabled, is_enabled}
 use Rattle.keyset_model.specs.Laws.{SetsStatus, IsKept}
 use Rattle.keyset_model.proofs.KeysLaw.{keeps_keys}
@@ -42,7 +42,7 @@ key_eq x y d s i p =
     ap₂ (λ kd st. record x { key_data = kd; status = st }) d s ∙ ap₂ (λ id pt. record y { key_id = id; output_prefix_type = pt }) i p
 
 -- a status that a sparing command gives is that of an enabled key
-gives_enabled : (id : ℕ) (status : ℤ) (c : Command) → Spares id c → SetsStatus id status c → status ≡ status_number Enabled
+gives_enabled : (id : ℕ) (status : ℤ) (c : Operation) → Spares id c → SetsStatus id status c → status ≡ status_number Enabled
 gives_enabled id status (commands.Add _) spares gives = absurd gives
 gives_enabled id status (commands.Rotate _) spares gives = absurd gives
 gives_enabled id status (commands.Enable n) spares gives = gives.1
@@ -51,7 +51,7 @@ gives_enabled id status (commands.Destroy n) spares gives = absurd (spares gives
 gives_enabled id status (commands.Delete _) spares gives = absurd gives
 gives_enabled id status (commands.SetPrimary _) spares gives = absurd gives
 
-module _ (cs : List Command) (k : Key) (on : is_enabled k ≡ true) (spared : All (Spares k.key_id) cs) where
+module _ (cs : List Operation) (k : Key) (on : is_enabled k ≡ true) (spared : All (Spares k.key_id) cs) where
   is_on : k.status ≡ status_number Enabled
   is_on = (Decides-int_eq k.status (status_number Enabled)).0 on
 

@@ -13,8 +13,8 @@ use Rattle.tink_proto.specs.declared.messages.keys.KeyData.{KeyData}
 use Rattle.tink_proto.specs.declared.messages.keys.KeyTemplate.{KeyTemplate}
 use Rattle.tink_proto.specs.declared.messages.keys.Keyset.{Keyset}
 use Rattle.keyset_model.specs.Adding.{IsFresh, new_key}
-use Rattle.keyset_model.specs.Commands as commands
-use Rattle.keyset_model.specs.Commands.{Command, Maker}
+use Rattle.keyset_model.specs.Operations as commands
+use Rattle.keyset_model.specs.Operations.{Operation, Maker}
 use Rattle.keyset_model.specs.Edits.{with_first, without_first}
 use Rattle.keyset_model.specs.Keys.{has_id, ids_of}
 use Rattle.keyset_model.specs.Laws.{AreOwnIds, KeepsIds}
@@ -77,7 +77,7 @@ own_less id keys own = record { not_zero = all_without (λ n. n ≡ 0 → ⊥) i
 own_changed : (id : ℕ) (change : Key → Key) → ((k : Key) → (change k).key_id ≡ k.key_id) → (ks : Keyset) → AreOwnIds (ids_of ks.key) → AreOwnIds (ids_of (with_first id change ks.key))
 own_changed id change same ks own = subst AreOwnIds (sym (ids_first id change same ks.key)) own
 
-pub own_by_one : (makes : Maker) (ks new : Keyset) (c : Command) → AreOwnIds (ids_of ks.key) → Becomes makes ks c new → AreOwnIds (ids_of new.key)
+pub own_by_one : (makes : Maker) (ks new : Keyset) (c : Operation) → AreOwnIds (ids_of ks.key) → Becomes makes ks c new → AreOwnIds (ids_of new.key)
 own_by_one makes ks new (commands.Add kt) own h = rw (h.is) (own_more ks.key kt h.key_data h.id h.fresh own)
 own_by_one makes ks new (commands.Rotate kt) own h = rw (h.is) (own_more ks.key kt h.key_data h.id h.fresh own)
 own_by_one makes ks new (commands.Enable id) own h = rw (h.3) (own_changed id _ (λ k. refl) ks own)

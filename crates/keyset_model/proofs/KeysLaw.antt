@@ -9,8 +9,8 @@ use Rattle.tink_proto.specs.declared.enums.KeyStatusType.TheVariants.{Enabled, D
 use Rattle.tink_proto.specs.declared.messages.keys.Key.{Key}
 use Rattle.tink_proto.specs.declared.messages.keys.Keyset.{Keyset}
 use Rattle.tink_proto.specs.Enums.{status_number}
-use Rattle.keyset_model.specs.Commands as commands
-use Rattle.keyset_model.specs.Commands.{Maker, Command, Managed, after, after_all, edit, keyset_after}
+use Rattle.keyset_model.specs.Operations as commands
+use Rattle.keyset_model.specs.Operations.{Maker, Operation, Managed, after, after_all, edit, keyset_after}
 use Rattle.keyset_model.specs.Edits.{as_destroyed, is_live, is_known_status, status_of, with_first, with_status, without_first}
 use Rattle.keyset_model.specs.Keys.{has_id}
 use Rattle.keyset_model.specs.Laws.{SetsStatus, IsKept, KeepsKeys}
@@ -47,7 +47,7 @@ module _ {X : Type 0} where
 -- ---- one command
 
 -- a key as a command changes it
-abbrev Changes : Command → Key → Key → Type 0
+abbrev Changes : Operation → Key → Key → Type 0
 Changes (commands.Add _) k now = ⊥
 Changes (commands.Rotate _) k now = ⊥
 Changes (commands.Enable n) k now = (n ≡ k.key_id) × (is_live k.status ≡ true) × (now ≡ with_status Enabled k)
@@ -57,7 +57,7 @@ Changes (commands.Delete _) k now = ⊥
 Changes (commands.SetPrimary _) k now = ⊥
 
 -- a key as it was, or as a command changes it
-abbrev Goes : Command → Key → Key → Type 0
+abbrev Goes : Operation → Key → Key → Type 0
 Goes c k now = (now ≡ k) ⊎ Changes c k now
 
 -- a key as it was, or the changed one of a status
@@ -102,7 +102,7 @@ left_there : (id : ℕ) (keys : List Key) (k : Key) → has_id id k ≡ false �
 left_there id [] k other there = there
 left_there id (x ∷ ks) k other there = left_by (has_id id x) x k ks (without_first id ks) there (differs id x k other) (left_there id ks k other)
 
-changed_by_command : (ks new : Keyset) (test : ℤ → Bool) (id : ℕ) (change : Key → Key) (c : Command) (k : Key) → Contains ks.key k → HasChanged ks test id change new
+changed_by_command : (ks new : Keyset) (test : ℤ → Bool) (id : ℕ) (change : Key → Key) (c : Operation) (k : Key) → Contains ks.key k → HasChanged ks test id change new
     → ((now : Key) → (id ≡ k.key_id) × (test k.status ≡ true) × (now ≡ change k) → Changes c k now) → Any (Goes c k) new.key
 changed_by_command ks new test id change c k there h each =
     subst (λ (n : Keyset). Any (Goes c k) n.key) (sym h.3)
@@ -116,7 +116,7 @@ without_command ks new id k true is there h = inl (ap commands.Delete (of_id id 
 without_command ks new id k false is there h =
     inr (subst (λ (n : Keyset). Any (Goes (commands.Delete id) k) n.key) (sym h) (there_still (Goes (commands.Delete id) k) (without_first id ks.key) k (left_there id ks.key k is there) (inl refl)))
 
-kept_one : (makes : Maker) (ks new : Keyset) (c : Command) (k : Key) → Contains ks.key k → Becomes makes ks c new → (c ≡ commands.Delete k.key_id) ⊎ Any (Goes c k) new.key
+kept_one : (makes : Maker) (ks new : Keyset) (c : Operation) (k : Key) → Contains ks.key k → Becomes makes ks c new → (c ≡ commands.Delete k.key_id) ⊎ Any (Goes c k) new.key
 kept_one makes ks new (commands.Add kt) k there h = inr (rw (h.is) (there_still (Goes (commands.Add kt) k) _ k (Contains-append_left ks.key _ k there) (inl refl)))
 kept_one makes ks new (commands.Rotate kt) k there h = inr (rw (h.is) (there_still (Goes (commands.Rotate kt) k) _ k (Contains-append_left ks.key _ k there) (inl refl)))
 kept_one makes ks new (commands.Enable id) k there h = inr (changed_by_command ks new is_live id (with_status Enabled) (commands.Enable id) k there h (λ now q. q))
@@ -127,7 +127,7 @@ kept_one makes ks new (commands.SetPrimary id) k there h = inr (rw (h.1) (there_
 
 -- ---- a command, and those behind it
 
-kept_longer : (c : Command) (cs : List Command) (k now : Key) → IsKept cs k now → IsKept (c ∷ cs) k now
+kept_longer : (c : Operation) (cs : List Operation) (k now : Key) → IsKept cs k now → IsKept (c ∷ cs) k now
 kept_longer c cs k now kept = record {
   id = kept.id;
   prefix = kept.prefix;
@@ -140,11 +140,11 @@ not_destroyed : (s : ℤ) → is_live s ≡ true → s ≡ status_number Destroy
 not_destroyed s live is = let dead : is_live (pos 3) ≡ true = subst (λ x. is_live x ≡ true) is live in absurd (cc)
 
 -- a status given first, and what follows
-given : (c : Command) (cs : List Command) (id : ℕ) (now first : ℤ) → SetsStatus id first c → (now ≡ first) ⊎ Any (SetsStatus id now) cs → Any (SetsStatus id now) (c ∷ cs)
+given : (c : Operation) (cs : List Operation) (id : ℕ) (now first : ℤ) → SetsStatus id first c → (now ≡ first) ⊎ Any (SetsStatus id now) cs → Any (SetsStatus id now) (c ∷ cs)
 given c cs id now first gives h =
     ⊎_elim (λ same. any_head (SetsStatus id now) c cs (subst (λ s. SetsStatus id s c) (sym same) gives)) (λ a. any_tail (SetsStatus id now) c cs a) h
 
-enabled_first : (c : Command) (cs : List Command) (k mid now : Key) (s : ℤ) → SetsStatus k.key_id s c → is_live k.status ≡ true → mid ≡ record k { status = s } → IsKept cs mid now → IsKept (c ∷ cs) k now
+enabled_first : (c : Operation) (cs : List Operation) (k mid now : Key) (s : ℤ) → SetsStatus k.key_id s c → is_live k.status ≡ true → mid ≡ record k { status = s } → IsKept cs mid now → IsKept (c ∷ cs) k now
 enabled_first c cs k mid now s gives live is was =
     let kept : IsKept cs (record k { status = s }) now = subst (λ x. IsKept cs x now) is was in
     record {
@@ -155,7 +155,7 @@ enabled_first c cs k mid now s gives live is was =
       stays = λ e. absurd (not_destroyed k.status live e);
     }
 
-destroyed_first : (n : ℕ) (cs : List Command) (k mid now : Key) → n ≡ k.key_id → mid ≡ as_destroyed k → IsKept cs mid now → IsKept (commands.Destroy n ∷ cs) k now
+destroyed_first : (n : ℕ) (cs : List Operation) (k mid now : Key) → n ≡ k.key_id → mid ≡ as_destroyed k → IsKept cs mid now → IsKept (commands.Destroy n ∷ cs) k now
 destroyed_first n cs k mid now same is was =
     let kept : IsKept cs (as_destroyed k) now = subst (λ x. IsKept cs x now) is was in
     let first : Contains (commands.Destroy n ∷ cs) (commands.Destroy k.key_id) = subst (λ id. Contains (commands.Destroy n ∷ cs) (commands.Destroy id)) same (in_head (commands.Destroy n) cs) in
@@ -167,7 +167,7 @@ destroyed_first n cs k mid now same is was =
       stays = λ _. kept.stays refl;
     }
 
-after_change : (c : Command) (cs : List Command) (k mid now : Key) → Changes c k mid → IsKept cs mid now → IsKept (c ∷ cs) k now
+after_change : (c : Operation) (cs : List Operation) (k mid now : Key) → Changes c k mid → IsKept cs mid now → IsKept (c ∷ cs) k now
 after_change (commands.Add kt) cs k mid now h kept = absurd h
 after_change (commands.Rotate kt) cs k mid now h kept = absurd h
 after_change (commands.Enable n) cs k mid now h kept = enabled_first (commands.Enable n) cs k mid now (status_number Enabled) (h.0, refl) h.1 h.2 kept
@@ -176,7 +176,7 @@ after_change (commands.Destroy n) cs k mid now h kept = destroyed_first n cs k m
 after_change (commands.Delete n) cs k mid now h kept = absurd h
 after_change (commands.SetPrimary n) cs k mid now h kept = absurd h
 
-same_id : (c : Command) (k mid : Key) → Changes c k mid → mid.key_id ≡ k.key_id
+same_id : (c : Operation) (k mid : Key) → Changes c k mid → mid.key_id ≡ k.key_id
 same_id (commands.Add kt) k mid h = absurd h
 same_id (commands.Rotate kt) k mid h = absurd h
 same_id (commands.Enable n) k mid h = ap (λ x. x.key_id) h.2
@@ -185,7 +185,7 @@ same_id (commands.Destroy n) k mid h = ap (λ x. x.key_id) h.1
 same_id (commands.Delete n) k mid h = absurd h
 same_id (commands.SetPrimary n) k mid h = absurd h
 
-later : (c : Command) (cs : List Command) (k mid : Key) (keys : List Key) → Goes c k mid → Contains cs (commands.Delete mid.key_id) ⊎ Any (IsKept cs mid) keys
+later : (c : Operation) (cs : List Operation) (k mid : Key) (keys : List Key) → Goes c k mid → Contains cs (commands.Delete mid.key_id) ⊎ Any (IsKept cs mid) keys
     → Contains (c ∷ cs) (commands.Delete k.key_id) ⊎ Any (IsKept (c ∷ cs) k) keys
 later c cs k mid keys goes h =
     let same : mid.key_id ≡ k.key_id = ⊎_elim (λ e. ap (λ (x : Key). x.key_id) e) (same_id c k mid) goes in
@@ -199,7 +199,7 @@ later c cs k mid keys goes h =
 kept_none : (k : Key) → IsKept [] k k
 kept_none k = record { id = refl; prefix = refl; status = inl refl; key_data = inl refl; stays = λ e. e }
 
-kept_all : (makes : Maker) (m : Managed) (cs : List Command) (k : Key) → Contains m.keyset.key k → Contains cs (commands.Delete k.key_id) ⊎ Any (IsKept cs k) (after_all makes m cs).keyset.key
+kept_all : (makes : Maker) (m : Managed) (cs : List Operation) (k : Key) → Contains m.keyset.key k → Contains cs (commands.Delete k.key_id) ⊎ Any (IsKept cs k) (after_all makes m cs).keyset.key
 kept_all makes m [] k there = inr (there_still (IsKept [] k) m.keyset.key k there (kept_none k))
 kept_all makes m (c ∷ cs) k there =
     let keys = (after_all makes (after makes m c) cs).keyset.key in

@@ -9,8 +9,8 @@ use Rattle.tink_proto.specs.declared.messages.keys.Key.{Key}
 use Rattle.tink_proto.specs.declared.messages.keys.Keyset.{Keyset}
 use Rattle.tink_proto.specs.Enums.{status_number}
 use Rattle.keyset_model.specs.Adding.{new_key}
-use Rattle.keyset_model.specs.Commands as commands
-use Rattle.keyset_model.specs.Commands.{Command, Maker}
+use Rattle.keyset_model.specs.Operations as commands
+use Rattle.keyset_model.specs.Operations.{Operation, Maker}
 use Rattle.keyset_model.specs.Edits.{status_of, with_first, with_status, without_first}
 use Rattle.keyset_model.specs.Keys.{has_id, is_enabled, is_enabled_with}
 use Rattle.keyset_model.specs.Laws.{KeepsPrimary}
@@ -83,7 +83,7 @@ chosen : (id : ℕ) (keys : List Key) → status_of id keys ≡ Some (status_num
 chosen id [] e = absurd (cc)
 chosen id (k ∷ ks) e = first_status (has_id id k) (is_enabled k) k.status (find (has_id id) ks) k (list_any (is_enabled_with id) ks) refl e (enabled_by k) (chosen id ks)
 
-pub primary_by_one : (makes : Maker) (ks new : Keyset) (c : Command) → has_a_primary ks ≡ true → Becomes makes ks c new → has_a_primary new ≡ true
+pub primary_by_one : (makes : Maker) (ks new : Keyset) (c : Operation) → has_a_primary ks ≡ true → Becomes makes ks c new → has_a_primary new ≡ true
 primary_by_one makes ks new (commands.Add kt) there h = rw (h.is) (any_left (is_enabled_with ks.primary_key_id) ks.key (new_key kt h.key_data h.id ∷ []) there)
 primary_by_one makes ks new (commands.Rotate kt) there h = rw (h.is) (any_last (is_enabled_with h.id) ks.key (new_key kt h.key_data h.id) (same_id h.id))
 primary_by_one makes ks new (commands.Enable id) there h = rw (h.3) (any_first (is_enabled_with ks.primary_key_id) id (with_status Enabled) (λ k has e. enabled_stays ks.primary_key_id k e) ks.key there)

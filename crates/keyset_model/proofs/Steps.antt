@@ -12,8 +12,8 @@ use Rattle.tink_proto.specs.declared.messages.keys.KeyTemplate.{KeyTemplate}
 use Rattle.tink_proto.specs.declared.messages.keys.Keyset.{Keyset}
 use Rattle.tink_proto.specs.Enums.{status_number}
 use Rattle.keyset_model.specs.Adding.{IsFresh, added_by_data, added_by_id, fresh_id, keyset_reply, new_key, with_key}
-use Rattle.keyset_model.specs.Commands as commands
-use Rattle.keyset_model.specs.Commands.{Maker, Command, Managed, after, after_all, edit, keyset_after}
+use Rattle.keyset_model.specs.Operations as commands
+use Rattle.keyset_model.specs.Operations.{Maker, Operation, Managed, after, after_all, edit, keyset_after}
 use Rattle.keyset_model.specs.Edits.{as_destroyed, edited_if_there, edited_where, is_known_status, is_live, primary_if_enabled, status_of, with_first, with_status, without_first}
 use Rattle.keyset_model.proofs.FreshIds.{fresh_if_not_taken, given_id}
 
@@ -31,7 +31,7 @@ abbrev pub HasChanged : Keyset → (ℤ → Bool) → ℕ → (Key → Key) → 
 HasChanged ks test id change new = (s : ℤ) × (status_of id ks.key ≡ Some s) × (test s ≡ true) × (new ≡ record ks { key = with_first id change ks.key })
 
 -- the keyset after a command that isn't refused
-abbrev pub Becomes : Maker → Keyset → Command → Keyset → Type 0
+abbrev pub Becomes : Maker → Keyset → Operation → Keyset → Type 0
 Becomes makes ks (commands.Add kt) new = HasNew makes ks kt false new
 Becomes makes ks (commands.Rotate kt) new = HasNew makes ks kt true new
 Becomes makes ks (commands.Enable id) new = HasChanged ks is_live id (with_status Enabled) new
@@ -74,7 +74,7 @@ by_data makes ks kt as_primary draws (Ok d) made left =
     by_id makes ks kt as_primary draws d made (fresh_id ks.key 128 left).0 (fresh_id ks.key 128 left).1 (λ id e. fresh_if_not_taken ks.key id (given_id ks.key 128 left id e))
 
 -- a command leaves the keyset, or makes this of it
-pub step : (makes : Maker) (ks : Keyset) (c : Command) (draws : List ℕ) → (keyset_after ks (edit makes ks c draws).0 ≡ ks) ⊎ Becomes makes ks c (keyset_after ks (edit makes ks c draws).0)
+pub step : (makes : Maker) (ks : Keyset) (c : Operation) (draws : List ℕ) → (keyset_after ks (edit makes ks c draws).0 ≡ ks) ⊎ Becomes makes ks c (keyset_after ks (edit makes ks c draws).0)
 step makes ks (commands.Add kt) draws = by_data makes ks kt false draws (makes kt draws).0 refl (makes kt draws).1
 step makes ks (commands.Rotate kt) draws = by_data makes ks kt true draws (makes kt draws).0 refl (makes kt draws).1
 step makes ks (commands.Enable id) draws = where_step is_live ks (with_first id (with_status Enabled) ks.key) (status_of id ks.key)
@@ -87,8 +87,8 @@ step makes ks (commands.Delete id) draws =
 step makes ks (commands.SetPrimary id) draws = primary_step ks id (status_of id ks.key)
 
 -- what each command keeps, all keep
-pub kept_by_all : (P : Keyset → Type 0) (makes : Maker) → ((ks new : Keyset) (c : Command) → P ks → Becomes makes ks c new → P new)
-    → (m : Managed) (cs : List Command) → P m.keyset → P (after_all makes m cs).keyset
+pub kept_by_all : (P : Keyset → Type 0) (makes : Maker) → ((ks new : Keyset) (c : Operation) → P ks → Becomes makes ks c new → P new)
+    → (m : Managed) (cs : List Operation) → P m.keyset → P (after_all makes m cs).keyset
 kept_by_all P makes each m [] p = p
 kept_by_all P makes each m (c ∷ cs) p =
     kept_by_all P makes each (after makes m c) cs

@@ -15,13 +15,13 @@ use Rattle.tink_proto.specs.declared.messages.keys.KeyTemplate.{KeyTemplate}
 use Rattle.tink_proto.specs.declared.messages.keys.Keyset.{Keyset}
 use Rattle.tink_proto.specs.Enums.{status_number}
 use Rattle.keyset_model.specs.Adding.{new_key}
-use Rattle.keyset_model.specs.Commands as commands
-use Rattle.keyset_model.specs.Commands.{Command, Maker, Managed, after_all}
+use Rattle.keyset_model.specs.Operations as commands
+use Rattle.keyset_model.specs.Operations.{Operation, Maker, Managed, after_all}
 use Rattle.keyset_model.specs.Edits.{as_destroyed, is_live, status_of, with_first, with_status}
 use Rattle.keyset_model.specs.Entries.{is_known_prefix}
 use Rattle.keyset_model.specs.Keys.{has_id, ids_of, is_enabled, is_enabled_with}
 use Rattle.keyset_model.specs.Laws.{AreOwnIds, GivesHeld, KeepsValid}
-use Rattle.keyset_model.specs.Validity.{are_well_formed, has_a_key, has_a_primary, has_an_enabled_key, has_at_most_one_primary, has_its_data, is_all_public, is_from_to, is_held, is_held_keyset, is_valid, is_validated, is_well_formed}
+use Rattle.keyset_model.specs.Validity.{are_well_formed, has_a_key, has_a_primary, has_an_enabled_key, has_at_most_one_primary, has_its_data, is_all_public, is_from_to, fits_handle, is_held_keyset, is_valid, is_validated, is_well_formed}
 use Rattle.keyset_model.proofs.EditLaws.{all_first, all_more, all_without, both, held_as_destroyed, held_more, held_with_status, held_without, joined, not_both}
 use Rattle.keyset_model.proofs.IdsLaw.{own_by_one}
 use Rattle.keyset_model.proofs.PrimaryLaw.{passes, primary_by_one}
@@ -107,10 +107,10 @@ All test ks = list_all test ks.key ≡ true
 record IsGood (ks : Keyset) : Type 0 where
   own : AreOwnIds (ids_of ks.key)
   primary : has_a_primary ks ≡ true
-  held : All is_held ks
+  held : All fits_handle ks
   formed : All is_well_formed ks
 
-held_by_one : (makes : Maker) → GivesHeld makes → (ks new : Keyset) (c : Command) → All is_held ks → Becomes makes ks c new → All is_held new
+held_by_one : (makes : Maker) → GivesHeld makes → (ks new : Keyset) (c : Operation) → All fits_handle ks → Becomes makes ks c new → All fits_handle new
 held_by_one makes gives ks new (commands.Add kt) held h = rw (h.is) (held_more ks.key (new_key kt h.key_data h.id) (gives kt h.draws h.key_data h.made).0 held)
 held_by_one makes gives ks new (commands.Rotate kt) held h = rw (h.is) (held_more ks.key (new_key kt h.key_data h.id) (gives kt h.draws h.key_data h.made).0 held)
 held_by_one makes gives ks new (commands.Enable id) held h = rw (h.3) (held_with_status Enabled id ks.key h.0 h.1 h.2 held)
@@ -124,7 +124,7 @@ formed_first : (status : KeyStatusType) → is_from_to (pos 1) (pos 3) (status_n
 formed_first status within id keys s at live formed =
     all_first is_well_formed (with_status status) s (λ k q e. formed_with_status status within k (subst (λ x. is_live x ≡ true) (sym q) live) e) id keys at formed
 
-formed_by_one : (makes : Maker) → GivesHeld makes → (ks new : Keyset) (c : Command) → All is_well_formed ks → Becomes makes ks c new → All is_well_formed new
+formed_by_one : (makes : Maker) → GivesHeld makes → (ks new : Keyset) (c : Operation) → All is_well_formed ks → Becomes makes ks c new → All is_well_formed new
 formed_by_one makes gives ks new (commands.Add kt) formed h =
     rw (h.is) (all_more is_well_formed ks.key (new_key kt h.key_data h.id) (formed_new kt h.key_data h.id h.fresh.not_zero (gives kt h.draws h.key_data h.made).1) formed)
 formed_by_one makes gives ks new (commands.Rotate kt) formed h =
@@ -135,7 +135,7 @@ formed_by_one makes gives ks new (commands.Destroy id) formed h = rw (h.1.3) (al
 formed_by_one makes gives ks new (commands.Delete id) formed h = rw (h.1) (all_without is_well_formed id ks.key formed)
 formed_by_one makes gives ks new (commands.SetPrimary id) formed h = rw (h.1) formed
 
-good_by_one : (makes : Maker) → GivesHeld makes → (ks new : Keyset) (c : Command) → IsGood ks → Becomes makes ks c new → IsGood new
+good_by_one : (makes : Maker) → GivesHeld makes → (ks new : Keyset) (c : Operation) → IsGood ks → Becomes makes ks c new → IsGood new
 good_by_one makes gives ks new c good h = record {
   own = own_by_one makes ks new c good.own h;
   primary = primary_by_one makes ks new c good.primary h;

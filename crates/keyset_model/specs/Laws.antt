@@ -10,7 +10,7 @@ use Rattle.tink_proto.specs.declared.messages.keys.KeyTemplate.{KeyTemplate}
 use Rattle.tink_proto.specs.declared.messages.keys.Keyset.{Keyset}
 use Rattle.tink_proto.specs.Enums.{status_number}
 use Rattle.keyset_model.specs.Adding.{added, drawn_id, fresh_id, is_taken, most_ids, IsFresh}
-use Rattle.keyset_model.specs.Commands.{Maker, Command, Add, Rotate, Enable, Disable, Destroy, Delete, SetPrimary, Managed, edit, keyset_after, after_all}
+use Rattle.keyset_model.specs.Operations.{Maker, Operation, Add, Rotate, Enable, Disable, Destroy, Delete, SetPrimary, Managed, edit, keyset_after, after_all}
 use Rattle.keyset_model.specs.Keys.{ids_of}
 use Rattle.keyset_model.specs.Entries.{is_known_prefix}
 use Rattle.keyset_model.specs.Validity.{IsValid, has_a_primary, is_known_material}
@@ -37,13 +37,13 @@ RefusedAddingLeaves =
 -- a refused command leaves the keyset
 abbrev pub RefusedEditLeaves : Type 0
 RefusedEditLeaves =
-    (makes : Maker) (ks : Keyset) (command : Command) (draws : List ℕ) (kind : Kind)
+    (makes : Maker) (ks : Keyset) (command : Operation) (draws : List ℕ) (kind : Kind)
     → (edit makes ks command draws).0 ≡ Err kind → keyset_after ks (edit makes ks command draws).0 ≡ ks
 
 -- ---- lists of commands
 
 -- the command gives a key of the id the status
-abbrev pub SetsStatus : ℕ → ℤ → Command → Type 0
+abbrev pub SetsStatus : ℕ → ℤ → Operation → Type 0
 SetsStatus id status (Add _) = ⊥
 SetsStatus id status (Rotate _) = ⊥
 SetsStatus id status (Enable n) = (n ≡ id) × (status ≡ status_number statuses.Enabled)
@@ -59,7 +59,7 @@ pub record IsGone (k : Key) : Type 0 where
 
 -- what commands leave of a key: its id and its prefix type; its status, unless one of them gave it another; and its data,
 -- unless one of them destroyed it. A destroyed key stays so.
-pub record IsKept (commands : List Command) (k now : Key) : Type 0 where
+pub record IsKept (commands : List Operation) (k now : Key) : Type 0 where
   pub id : now.key_id ≡ k.key_id
   pub prefix : now.output_prefix_type ≡ k.output_prefix_type
   pub status : (now.status ≡ k.status) ⊎ Any (SetsStatus k.key_id now.status) commands
@@ -69,7 +69,7 @@ pub record IsKept (commands : List Command) (k now : Key) : Type 0 where
 -- no key is lost but by a command that deletes its id
 abbrev pub KeepsKeys : Type 0
 KeepsKeys =
-    (makes : Maker) (m : Managed) (commands : List Command) (k : Key) → Contains m.keyset.key k
+    (makes : Maker) (m : Managed) (commands : List Operation) (k : Key) → Contains m.keyset.key k
     → Contains commands (Delete k.key_id) ⊎ Any (IsKept commands k) (after_all makes m commands).keyset.key
 
 -- no id is 0, and no two are equal
@@ -79,11 +79,11 @@ pub record AreOwnIds (ids : List ℕ) : Type 0 where
 
 -- ids that are distinct and not 0 stay so
 abbrev pub KeepsIds : Type 0
-KeepsIds = (makes : Maker) (m : Managed) (commands : List Command) → AreOwnIds (ids_of m.keyset.key) → AreOwnIds (ids_of (after_all makes m commands).keyset.key)
+KeepsIds = (makes : Maker) (m : Managed) (commands : List Operation) → AreOwnIds (ids_of m.keyset.key) → AreOwnIds (ids_of (after_all makes m commands).keyset.key)
 
 -- where an enabled key has the primary id, one has it after all commands
 abbrev pub KeepsPrimary : Type 0
-KeepsPrimary = (makes : Maker) (m : Managed) (commands : List Command) → IsTrue (has_a_primary m.keyset) → IsTrue (has_a_primary (after_all makes m commands).keyset)
+KeepsPrimary = (makes : Maker) (m : Managed) (commands : List Operation) → IsTrue (has_a_primary m.keyset) → IsTrue (has_a_primary (after_all makes m commands).keyset)
 
 -- the managers give data that a handle may hold, and by templates whose prefix type is from 1 to 4
 abbrev pub GivesHeld : Maker → Type 0
@@ -94,5 +94,5 @@ GivesHeld makes =
 -- a valid keyset whose ids are distinct, and of which an enabled key is the primary one, stays valid
 abbrev pub KeepsValid : Type 0
 KeepsValid =
-    (makes : Maker) → GivesHeld makes → (m : Managed) (commands : List Command) → AreOwnIds (ids_of m.keyset.key) → IsTrue (has_a_primary m.keyset)
+    (makes : Maker) → GivesHeld makes → (m : Managed) (commands : List Operation) → AreOwnIds (ids_of m.keyset.key) → IsTrue (has_a_primary m.keyset)
     → IsValid m.keyset → IsValid (after_all makes m commands).keyset

@@ -1,5 +1,5 @@
 pub mod Adding
-pub mod Commands
+pub mod Operations
 pub mod Edits
 pub mod Entries
 pub mod Keys

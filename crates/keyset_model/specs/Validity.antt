@@ -19,8 +19,8 @@ abbrev pub has_its_data : Key → Bool
 has_its_data k = is_some k.key_data || is_destroyed k
 
 -- A key that a handle holds: it has data unless it is destroyed, and data has a material from 0 to 4.
-abbrev pub is_held : Key → Bool
-is_held k = has_its_data k && is_known_material k.key_data
+abbrev pub fits_handle : Key → Bool
+fits_handle k = has_its_data k && is_known_material k.key_data
 
 -- The key has data unless it is destroyed, its id isn't 0, its prefix type is from 1 to 4, its status from 1 to 3.
 abbrev pub is_well_formed : Key → Bool
@@ -53,7 +53,7 @@ is_all_public ks = list_all is_public (enabled ks)
 
 -- The rule of a handle: each key may be held.
 abbrev pub is_held_keyset : Keyset → Bool
-is_held_keyset ks = list_all is_held ks.key
+is_held_keyset ks = list_all fits_handle ks.key
 
 -- What validating a handle's keyset adds: there is a key, each is well formed, at most one enabled key has the primary
 -- id, some key is enabled, and one enabled key has the primary id or every enabled key is public.
@@ -65,8 +65,8 @@ is_validated ks =
 abbrev pub is_valid : Keyset → Bool
 is_valid ks = is_held_keyset ks && is_validated ks
 
-abbrev pub MayBeHeld : Keyset → Type 0
-MayBeHeld ks = IsTrue (is_held_keyset ks)
+abbrev pub FitsHandle : Keyset → Type 0
+FitsHandle ks = IsTrue (is_held_keyset ks)
 
 abbrev pub IsValidated : Keyset → Type 0
 IsValidated ks = IsTrue (is_validated ks)

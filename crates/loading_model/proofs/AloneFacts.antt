@@ -8,7 +8,7 @@ use Rattle.tink_io.specs.declared.error.Kind.TheVariants.{InvalidKeyset}
 use Rattle.tink_proto.specs.declared.messages.keys.Key.{Key}
 use Rattle.tink_proto.specs.declared.messages.keys.Keyset.{Keyset}
 use Rattle.keyset_model.specs.Keys.{is_enabled}
-use Rattle.keyset_model.specs.Validity.{are_well_formed, has_a_key, has_an_enabled_key, has_at_most_one_primary, has_a_primary, is_all_public, is_held, is_held_keyset, is_valid, is_validated, is_well_formed}
+use Rattle.keyset_model.specs.Validity.{are_well_formed, has_a_key, has_an_enabled_key, has_at_most_one_primary, has_a_primary, is_all_public, fits_handle, is_held_keyset, is_valid, is_validated, is_well_formed}
 use Rattle.keyset_model.proofs.EditLaws.{both}
 use Rattle.stream_model.specs.Key.{StreamKey}
 use Rattle.stream_model.specs.Opening.{opening_key}
@@ -38,10 +38,10 @@ same_id : (id : ℕ) → nat_eq id id ≡ true
 same_id id = grind (arith, nat_tests)
 
 -- an enabled key that is held and well formed is valid by itself
-valid_alone : (k : Key) → is_held k ≡ true → is_well_formed k ≡ true → is_enabled k ≡ true → is_valid (alone k) ≡ true
+valid_alone : (k : Key) → fits_handle k ≡ true → is_well_formed k ≡ true → is_enabled k ≡ true → is_valid (alone k) ≡ true
 valid_alone k held formed on = rw (held, formed, on, same_id k.key_id) refl
 
-valid_parts : (ks : Keyset) → is_valid ks ≡ true → (list_all is_held ks.key ≡ true) × (list_all is_well_formed ks.key ≡ true)
+valid_parts : (ks : Keyset) → is_valid ks ≡ true → (list_all fits_handle ks.key ≡ true) × (list_all is_well_formed ks.key ≡ true)
 valid_parts ks valid =
     let parts = both (is_held_keyset ks) (is_validated ks) valid in
     let keys = both (has_a_key ks) (are_well_formed ks) (both (has_a_key ks && are_well_formed ks) (has_at_most_one_primary ks)
@@ -74,6 +74,6 @@ pub loads_alone : LoadsAlone
 loads_alone rows ks l aad S place id key k e chosen at =
     let parts = valid_parts ks (tested ks rows l e) in
     let b = builds_at rows aad S ks.key place id key k chosen at in
-    let valid = valid_alone k (passes_at is_held ks.key place k parts.0 at)
+    let valid = valid_alone k (passes_at fits_handle ks.key place k parts.0 at)
     (passes_at is_well_formed ks.key place k parts.1 at) b.enabled in
     (by_itself rows aad k key, rw valid (loads rows aad k key b), opens rows aad k key)

@@ -9,8 +9,8 @@ use Rattle.tink_proto.specs.declared.enums.KeyStatusType.TheVariants as statuses
 use Rattle.tink_proto.specs.declared.messages.keys.Keyset.{Keyset}
 use Rattle.tink_proto.specs.Messages.{keyset}
 use Rattle.wire_format.proofs.ReadingLaws.{written_again}
-use Rattle.keyset_model.specs.Commands as commands
-use Rattle.keyset_model.specs.Commands.{Command, Maker, Managed, after, after_all, edit, keyset_after}
+use Rattle.keyset_model.specs.Operations as commands
+use Rattle.keyset_model.specs.Operations.{Operation, Maker, Managed, after, after_all, edit, keyset_after}
 use Rattle.keyset_model.specs.Edits.{as_destroyed, edited_if_there, status_of, with_status, without_first}
 use Rattle.keyset_model.specs.Spared.{Spares}
 use Rattle.keyset_model.proofs.Steps.{Becomes, step}
@@ -39,7 +39,7 @@ module _ (rows : List LoadingRow) (aad S : List ℕ) where
   abbrev At : Keyset → ℕ → ℕ → StreamKey → Type 0
   At ks place chosen key = IsChosenAt rows aad S ks.key place chosen key
 
-  becomes_at : (makes : Maker) (ks new : Keyset) (c : Command) (place chosen : ℕ) (key : StreamKey)
+  becomes_at : (makes : Maker) (ks new : Keyset) (c : Operation) (place chosen : ℕ) (key : StreamKey)
       → Becomes makes ks c new → LeavesPlace ks place c → At ks place chosen key
       → ((id : ℕ) → c ≡ commands.Delete id → ⊥) → At new place chosen key
   becomes_at makes ks new (commands.Add kt) place chosen key h leaves at not =
@@ -71,7 +71,7 @@ module _ (rows : List LoadingRow) (aad S : List ℕ) where
   deleted_at ks id place chosen key false (Some s) is found leaves at =
       at_without rows aad S id ks.key place chosen key (elsewhere ks place id is leaves) at
 
-  kept_or : (makes : Maker) (m : Managed) (c : Command) (place chosen : ℕ) (key : StreamKey)
+  kept_or : (makes : Maker) (m : Managed) (c : Operation) (place chosen : ℕ) (key : StreamKey)
       → At m.keyset place chosen key → LeavesPlace m.keyset place c → ((id : ℕ) → c ≡ commands.Delete id → ⊥)
       → At (after makes m c).keyset place chosen key
   kept_or makes m c place chosen key at leaves not =
@@ -80,7 +80,7 @@ module _ (rows : List LoadingRow) (aad S : List ℕ) where
       becomes_at makes m.keyset (after makes m c).keyset c place chosen key becomes leaves at not)
       (step makes m.keyset c m.draws)
 
-  one_at : (makes : Maker) (m : Managed) (c : Command) (place chosen : ℕ) (key : StreamKey)
+  one_at : (makes : Maker) (m : Managed) (c : Operation) (place chosen : ℕ) (key : StreamKey)
       → At m.keyset place chosen key → LeavesPlace m.keyset place c
       → At (after makes m c).keyset (place_after m.keyset place c) chosen key
   one_at makes m (commands.Add kt) place chosen key at leaves =
@@ -99,7 +99,7 @@ module _ (rows : List LoadingRow) (aad S : List ℕ) where
   one_at makes m (commands.SetPrimary n) place chosen key at leaves =
       kept_or makes m (commands.SetPrimary n) place chosen key at leaves (λ id e. absurd (cc))
 
-  all_at : (makes : Maker) (m : Managed) (cs : List Command) (place chosen : ℕ) (key : StreamKey)
+  all_at : (makes : Maker) (m : Managed) (cs : List Operation) (place chosen : ℕ) (key : StreamKey)
       → At m.keyset place chosen key → AllLeavePlace makes m place cs
       → At (after_all makes m cs).keyset (place_after_all makes m place cs) chosen key
   all_at makes m [] place chosen key at leave = at
@@ -113,7 +113,7 @@ module _ (rows : List LoadingRow) (aad S : List ℕ) where
       → ActsElsewhere ks place n
   not_there ks n place chosen key at other = inr (λ e. other (of_place rows aad S n ks.key place chosen key e at))
 
-  leaves_by_id : (ks : Keyset) (c : Command) (place chosen : ℕ) (key : StreamKey) → At ks place chosen key
+  leaves_by_id : (ks : Keyset) (c : Operation) (place chosen : ℕ) (key : StreamKey) → At ks place chosen key
       → Spares chosen c → EnablesNone c → LeavesPlace ks place c
   leaves_by_id ks (commands.Add kt) place chosen key at spares none = tt
   leaves_by_id ks (commands.Rotate kt) place chosen key at spares none = tt
@@ -123,7 +123,7 @@ module _ (rows : List LoadingRow) (aad S : List ℕ) where
   leaves_by_id ks (commands.Delete n) place chosen key at spares none = not_there ks n place chosen key at spares
   leaves_by_id ks (commands.SetPrimary n) place chosen key at spares none = tt
 
-  leave_by_id : (makes : Maker) (m : Managed) (cs : List Command) (place chosen : ℕ) (key : StreamKey)
+  leave_by_id : (makes : Maker) (m : Managed) (cs : List Operation) (place chosen : ℕ) (key : StreamKey)
       → At m.keyset place chosen key → All (λ c. Spares chosen c × EnablesNone c) cs → AllLeavePlace makes m place cs
   leave_by_id makes m [] place chosen key at spared = tt
   leave_by_id makes m (c ∷ cs) place chosen key at spared =
@@ -179,7 +179,7 @@ streams_outlive_by_id rows makes m cs l later aad S place id key at spared loads
     streams_outlive rows makes m cs l later aad S place id key at
     (leave_by_id rows aad S makes m cs place id key at spared) loads loads_later text
 
-leaves_some : (c : Command) (id : ℕ) → LeavesKeys c → Spares id c × EnablesNone c
+leaves_some : (c : Operation) (id : ℕ) → LeavesKeys c → Spares id c × EnablesNone c
 leaves_some (commands.Add kt) id h = (tt, tt)
 leaves_some (commands.Rotate kt) id h = (tt, tt)
 leaves_some (commands.Enable n) id h = absurd h

@@ -6,7 +6,7 @@ use Rattle.tink_proto.specs.declared.messages.keys.Key.{Key}
 use Rattle.tink_proto.specs.declared.messages.keys.Keyset.{Keyset}
 use Rattle.tink_proto.specs.Messages.{keyset}
 use Rattle.wire_format.specs.Message.{encoded}
-use Rattle.keyset_model.specs.Commands.{Maker, Command, Add, Rotate, Enable, Disable, Destroy, Delete, SetPrimary, Managed, after, after_all}
+use Rattle.keyset_model.specs.Operations.{Maker, Operation, Add, Rotate, Enable, Disable, Destroy, Delete, SetPrimary, Managed, after, after_all}
 use Rattle.keyset_model.specs.Keys.{has_id, is_enabled}
 use Rattle.keyset_model.specs.Spared.{Spares}
 use Rattle.stream_model.specs.Agree.{joined}
@@ -51,7 +51,7 @@ IsChosenAt rows aad S (k ∷ ks) (suc place) id key =
 -- ---- what commands leave
 
 -- the command enables no key
-abbrev pub EnablesNone : Command → Type 0
+abbrev pub EnablesNone : Operation → Type 0
 EnablesNone (Add _) = ⊤
 EnablesNone (Rotate _) = ⊤
 EnablesNone (Enable _) = ⊥
@@ -61,7 +61,7 @@ EnablesNone (Delete _) = ⊤
 EnablesNone (SetPrimary _) = ⊤
 
 -- the command adds a key behind the others, or makes one the primary one
-abbrev pub LeavesKeys : Command → Type 0
+abbrev pub LeavesKeys : Operation → Type 0
 LeavesKeys (Add _) = ⊤
 LeavesKeys (Rotate _) = ⊤
 LeavesKeys (Enable _) = ⊥
@@ -75,7 +75,7 @@ abbrev pub ActsElsewhere : Keyset → ℕ → ℕ → Type 0
 ActsElsewhere ks place id = (ks.primary_key_id ≡ id) ⊎ (place_of id ks.key ≡ Some place → ⊥)
 
 -- the command disables, destroys or deletes no key at the place, and enables none before it
-abbrev pub LeavesPlace : Keyset → ℕ → Command → Type 0
+abbrev pub LeavesPlace : Keyset → ℕ → Operation → Type 0
 LeavesPlace ks place (Add _) = ⊤
 LeavesPlace ks place (Rotate _) = ⊤
 LeavesPlace ks place (Enable id) = (p : ℕ) → place_of id ks.key ≡ Some p → place ≤ p
@@ -90,7 +90,7 @@ place_without None place = place
 place_without (Some p) place = if nat_lt p place then place - 1 else place
 
 -- where a key stands after the command. The primary id is refused, and so deletes none.
-abbrev pub place_after : Keyset → ℕ → Command → ℕ
+abbrev pub place_after : Keyset → ℕ → Operation → ℕ
 place_after ks place (Add _) = place
 place_after ks place (Rotate _) = place
 place_after ks place (Enable _) = place
@@ -102,13 +102,13 @@ place_after ks place (SetPrimary _) = place
 
 module _ (makes : Maker) where
   -- each command leaves the key where it then stands
-  abbrev pub AllLeavePlace : Managed → ℕ → List Command → Type 0
+  abbrev pub AllLeavePlace : Managed → ℕ → List Operation → Type 0
   AllLeavePlace m place [] = ⊤
   AllLeavePlace m place (c ∷ cs) =
       LeavesPlace m.keyset place c × AllLeavePlace (after makes m c) (place_after m.keyset place c) cs
 
   -- where a key stands after all of them
-  abbrev pub place_after_all : Managed → ℕ → List Command → ℕ
+  abbrev pub place_after_all : Managed → ℕ → List Operation → ℕ
   place_after_all m place [] = place
   place_after_all m place (c ∷ cs) = place_after_all (after makes m c) (place_after m.keyset place c) cs
 
@@ -117,7 +117,7 @@ module _ (makes : Maker) where
 -- the bytes of the keyset that commands make load as that keyset, where it fits the wire format
 abbrev pub EditedLoads : Type 0
 EditedLoads =
-    (rows : List LoadingRow) (makes : Maker) (m : Managed) (commands : List Command)
+    (rows : List LoadingRow) (makes : Maker) (m : Managed) (commands : List Operation)
     → IsTrue (keyset.fits (after_all makes m commands).keyset)
     → load_by rows (encoded keyset.write (after_all makes m commands).keyset)
     ≡ load_keyset rows (after_all makes m commands).keyset
@@ -143,7 +143,7 @@ LoadsAlone =
 -- after commands that only add keys or choose the primary one, each stream opens to the text that it opened to
 abbrev pub StreamsStay : Type 0
 StreamsStay =
-    (rows : List LoadingRow) (makes : Maker) (m : Managed) (commands : List Command) (l later : Loaded)
+    (rows : List LoadingRow) (makes : Maker) (m : Managed) (commands : List Operation) (l later : Loaded)
     (aad S text : List ℕ) → All LeavesKeys commands
     → load_keyset rows m.keyset ≡ Ok l → load_keyset rows (after_all makes m commands).keyset ≡ Ok later
     → OpensTo l aad S text → OpensTo later aad S text
@@ -151,7 +151,7 @@ StreamsStay =
 -- the key that is chosen for a stream stays so where a command leaves its place
 abbrev pub StaysChosen : Type 0
 StaysChosen =
-    (rows : List LoadingRow) (makes : Maker) (m : Managed) (command : Command) (aad S : List ℕ)
+    (rows : List LoadingRow) (makes : Maker) (m : Managed) (command : Operation) (aad S : List ℕ)
     (place id : ℕ) (key : StreamKey)
     → IsChosenAt rows aad S m.keyset.key place id key → LeavesPlace m.keyset place command
     → IsChosenAt rows aad S (after makes m command).keyset.key (place_after m.keyset place command) id key
@@ -159,7 +159,7 @@ StaysChosen =
 -- and the stream opens to the texts that it opened to, and to no others
 abbrev pub OpeningStays : Type 0
 OpeningStays =
-    (rows : List LoadingRow) (makes : Maker) (m : Managed) (command : Command) (l later : Loaded)
+    (rows : List LoadingRow) (makes : Maker) (m : Managed) (command : Operation) (l later : Loaded)
     (aad S : List ℕ) (place id : ℕ) (key : StreamKey)
     → IsChosenAt rows aad S m.keyset.key place id key → LeavesPlace m.keyset place command
     → load_keyset rows m.keyset ≡ Ok l → load_keyset rows (after makes m command).keyset ≡ Ok later
@@ -168,14 +168,14 @@ OpeningStays =
 -- the same of a list of commands, whether the keyset loads in between or not
 abbrev pub StaysChosenByAll : Type 0
 StaysChosenByAll =
-    (rows : List LoadingRow) (makes : Maker) (m : Managed) (commands : List Command) (aad S : List ℕ)
+    (rows : List LoadingRow) (makes : Maker) (m : Managed) (commands : List Operation) (aad S : List ℕ)
     (place id : ℕ) (key : StreamKey)
     → IsChosenAt rows aad S m.keyset.key place id key → AllLeavePlace makes m place commands
     → IsChosenAt rows aad S (after_all makes m commands).keyset.key (place_after_all makes m place commands) id key
 
 abbrev pub StreamsOutlive : Type 0
 StreamsOutlive =
-    (rows : List LoadingRow) (makes : Maker) (m : Managed) (commands : List Command) (l later : Loaded)
+    (rows : List LoadingRow) (makes : Maker) (m : Managed) (commands : List Operation) (l later : Loaded)
     (aad S : List ℕ) (place id : ℕ) (key : StreamKey)
     → IsChosenAt rows aad S m.keyset.key place id key → AllLeavePlace makes m place commands
     → load_keyset rows m.keyset ≡ Ok l → load_keyset rows (after_all makes m commands).keyset ≡ Ok later
@@ -184,7 +184,7 @@ StreamsOutlive =
 -- and so it is where each of them enables none, and disables, destroys or deletes no key of the id
 abbrev pub StreamsOutliveById : Type 0
 StreamsOutliveById =
-    (rows : List LoadingRow) (makes : Maker) (m : Managed) (commands : List Command) (l later : Loaded)
+    (rows : List LoadingRow) (makes : Maker) (m : Managed) (commands : List Operation) (l later : Loaded)
     (aad S : List ℕ) (place id : ℕ) (key : StreamKey)
     → IsChosenAt rows aad S m.keyset.key place id key → All (λ c. Spares id c × EnablesNone c) commands
     → load_keyset rows m.keyset ≡ Ok l → load_keyset rows (after_all makes m commands).keyset ≡ Ok later

@@ -35,5 +35,5 @@ drawn k = k.derived + 7
 abbrev pub salt_of : StreamKey → List ℕ → List ℕ
 salt_of k draws = take k.derived draws
 
-abbrev pub prefix_of : StreamKey → List ℕ → List ℕ
-prefix_of k draws = take 7 (drop k.derived draws)
+abbrev pub nonce_prefix_of : StreamKey → List ℕ → List ℕ
+nonce_prefix_of k draws = take 7 (drop k.derived draws)

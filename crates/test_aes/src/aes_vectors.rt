@@ -64,7 +64,7 @@ pub const ROWS: &[Row] = &[
 ];
 
 // A block encrypted, where the key has 32 bytes.
-fn encrypted(key: &[u8], block: &[u8; 16]) -> Result<[u8; 16], InvalidLength>
+fn encrypt_block_under(key: &[u8], block: &[u8; 16]) -> Result<[u8; 16], InvalidLength>
     ensures ok { IsOk result ↔ (length key.now ≡ 32) }
     ensures value { IfOk result (λ out. out ≡ aes key.now block.now) }
 {
@@ -82,7 +82,7 @@ pub fn are_taken(n: usize) -> bool {
         Aes128::new_from_slice(key).is_ok(),
         Aes192::new_from_slice(key).is_ok(),
         Aes256::new_from_slice(key).is_ok(),
-        encrypted(key, TEXT).is_ok(),
+        encrypt_block_under(key, TEXT).is_ok(),
     ];
     taken == [n == 16, n == 24, n == 32, n == 32]
 }

@@ -50,19 +50,23 @@ const LARGE: TestVector = TestVector {
 \xb2\xeb\x05\xe2\xc3\x9b\xe9\xfc\xda\x6c\x19\x07\x8c\x6a\x9d\x1b",
 };
 
-type Told = Result<(), &'static str>;
+type VectorResult = Result<(), &'static str>;
 
 // whether the tests both ways answer this
 fn is_told<C: KeyInit<K> + BlockCipherEncrypt<16> + BlockCipherDecrypt<16> + Drop, const K: usize>(
     vector: &TestVector,
-    want: &[Told; 2],
+    want: &[VectorResult; 2],
 ) -> bool {
     encrypt::<Encryptor<C, [u8; 16]>, K, 16, 16>(vector) == want[0]
         && decrypt::<Decryptor<C, [u8; 16]>, K, 16, 16>(vector) == want[1]
 }
 
 // Blocks enciphered in their places.
-fn chained<C: BlockCipherEncrypt<16> + Drop>(cipher: C, iv: &[u8; 16], blocks: &mut [[u8; 16]]) {
+fn encrypt_chain<C: BlockCipherEncrypt<16> + Drop>(
+    cipher: C,
+    iv: &[u8; 16],
+    blocks: &mut [[u8; 16]],
+) {
     let mut mode = Encryptor::inner_iv_init(cipher, iv);
     mode.encrypt_blocks(blocks);
 }
@@ -79,7 +83,7 @@ fn goes_on() -> bool {
     first.encrypt_blocks(&mut one);
     second.encrypt_blocks(&mut other);
     let mut third = [[2; 16]; 3];
-    chained(Aes128::new(&[7; 16]), &iv, &mut third);
+    encrypt_chain(Aes128::new(&[7; 16]), &iv, &mut third);
     one == other && one == third
 }
 
@@ -88,9 +92,9 @@ fn refuses() -> bool {
     Decryptor::inner_iv_slice_init(Aes128::new(&[7; 16]), &[0; 15]).is_err()
 }
 
-const RIGHT: &[Told; 2] = &[Ok(()); 2];
+const RIGHT: &[VectorResult; 2] = &[Ok(()); 2];
 
-const WRONG: &[Told; 2] = &[
+const WRONG: &[VectorResult; 2] = &[
     Err("single block encryption failure"),
     Err("single block decryption failure"),
 ];

@@ -69,7 +69,7 @@ fn is_at<T: StreamCipherSeekCore<16>>(core: &T, place: u128, remaining: Option<u
 }
 
 // The core at another block.
-fn placed<T: StreamCipherSeekCore<16>>(mut core: T, place: u128) -> T {
+fn core_at<T: StreamCipherSeekCore<16>>(mut core: T, place: u128) -> T {
     if let Some(place) = T::Counter::from_u128(place) {
         core.set_block_pos(place);
     }
@@ -179,7 +179,7 @@ fn core_answers<
         Asked::Apply(n, size) => applies(Cipher::<T>::new(KEY, iv), *n, *size),
         Asked::From(place, asked) => {
             let core = T::inner_iv_init(C::new(KEY), iv);
-            core_does(placed(core, *place), asked)
+            core_does(core_at(core, *place), asked)
         }
     }
 }

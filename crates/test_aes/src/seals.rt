@@ -98,7 +98,7 @@ fn next_tag<S: Sealer>(s: &S, tag: &[u8; 16], n: usize, m: usize) -> [u8; 16]
 }
 
 // The last tag where each length of text and data from 0 to 64 is sealed, and each nonce is a prefix of the tag before.
-fn chained<S: Sealer>(s: &S) -> [u8; 16] {
+fn last_tag<S: Sealer>(s: &S) -> [u8; 16] {
     let mut tag = [0u8; 16];
     for n in 0..65usize {
         for m in 0..65usize {
@@ -156,7 +156,7 @@ pub enum Of {
 fn does<S: Sealer>(s: &S, asked: &Asked) -> bool {
     match asked {
         Asked::Seal(nonce, aad, text, end) => seals(s, nonce, aad, text, end),
-        Asked::Chain(tag) => chained(s) == *tag,
+        Asked::Chain(tag) => last_tag(s) == *tag,
         Asked::Refuse(aad, sealed) => refuses(s, &[0; 12], aad, sealed),
         Asked::RefuseChanges => refuses_changes(s),
     }

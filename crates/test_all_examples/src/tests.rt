@@ -1,12 +1,12 @@
 //! One test a crate of rows. The rows are in libraries, so that one test program is linked with all that they reach.
 
 use std::process::Abort;
-use test_util::Told;
+use test_util::Verdict;
 
 // Stops where a row failed, and shows it: its name, what it answered and what is wanted. The rows behind it are tried
 // all the same.
-fn hold(rt: &impl Abort, told: Told) {
-    assert_eq!(rt; told.failure, None);
+fn hold(rt: &impl Abort, verdict: Verdict) {
+    assert_eq!(rt; verdict.failure, None);
 }
 
 /// The examples: tokens and a store over a rotation, and backups that are restored whole and in part.

@@ -3,12 +3,12 @@
 //! Of all programs of tests this one is linked with most.
 
 use std::process::Abort;
-use test_util::Told;
+use test_util::Verdict;
 
 // Stops where a row failed, and shows it: its name, what it answered and what is wanted. The rows behind it are tried
 // all the same.
-fn hold(rt: &impl Abort, told: Told) {
-    assert_eq!(rt; told.failure, None);
+fn hold(rt: &impl Abort, verdict: Verdict) {
+    assert_eq!(rt; verdict.failure, None);
 }
 
 /// The five tasks of docs/USING.md over one registry of all managers, the key of each template, and keysets that a

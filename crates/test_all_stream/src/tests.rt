@@ -1,11 +1,11 @@
 //! One test a crate of rows. The rows are in libraries, so that one test program is linked with all that they reach.
 
 use std::process::Abort;
-use test_util::Told;
+use test_util::Verdict;
 
 // Stops where a row failed, and shows it.
-fn hold(rt: &impl Abort, told: Told) {
-    assert_eq!(rt; told.failure, None);
+fn hold(rt: &impl Abort, verdict: Verdict) {
+    assert_eq!(rt; verdict.failure, None);
 }
 
 #[test]

@@ -104,7 +104,7 @@ const WAYS: [[u8; 5]; 6] = [
     [1, 2, 3, 4, 255],
 ];
 
-type Told = Result<(), &'static str>;
+type VectorResult = Result<(), &'static str>;
 
 // how a vector is tried
 #[derive(Clone, Copy)]
@@ -114,7 +114,7 @@ pub enum Way {
     Both,
 }
 
-fn told(way: Way, vector: &TestVector) -> Told {
+fn run_vector(way: Way, vector: &TestVector) -> VectorResult {
     match way {
         Way::There => encrypt_test::<Shift, 1, 5>(vector),
         Way::Back => decrypt_test::<Shift, 1, 5>(vector),
@@ -151,7 +151,7 @@ pub enum Asked {
     Misfits,
     EachWay,
     // A vector tried that way, and what is told.
-    Vector(Way, TestVector, Told),
+    Vector(Way, TestVector, VectorResult),
     Reference,
     Key,
     NoKey,
@@ -163,7 +163,7 @@ pub fn holds(asked: &Asked) -> bool {
         Asked::UpToTen => up_to_ten_are_shifted(),
         Asked::Misfits => misfits_change_nothing(),
         Asked::EachWay => each_way() == WAYS,
-        Asked::Vector(way, vector, want) => told(*way, vector) == *want,
+        Asked::Vector(way, vector, want) => run_vector(*way, vector) == *want,
         Asked::Reference => shifts_behind_a_reference(),
         Asked::Key => Shift::new_from_slice(&[250]).is_ok(),
         Asked::NoKey => Shift::new_from_slice(&[]).is_err(),

@@ -5,7 +5,7 @@ use crate::rows::Row;
 use cipher::{InOut, InOutBuf, InOutBufReserved};
 
 // what a buffer reads, and what it writes, xor ones
-fn xored() -> ([u8; 5], [u8; 5]) {
+fn read_and_xor() -> ([u8; 5], [u8; 5]) {
     let mut output = [0; 5];
     let mut read = [0; 5];
     let mut buffer = InOutBuf::new(&[1, 2, 3, 4, 5], &mut output).unwrap();
@@ -163,7 +163,7 @@ fn write(asked: Asked, output: &mut [u8; 5]) {
 }
 
 // what five places are then
-fn written(asked: Asked) -> [u8; 5] {
+fn output_of(asked: Asked) -> [u8; 5] {
     let mut output = [1, 2, 3, 4, 5];
     write(asked, &mut output);
     output
@@ -199,7 +199,7 @@ pub fn holds(asked: Asked) -> bool {
         Asked::Unequal | Asked::TooLongInFront | Asked::TooLongElsewhere => {
             refuses_and_keeps(asked)
         }
-        Asked::Xor => xored() == ([1, 2, 3, 4, 5], [0, 3, 2, 5, 4]),
+        Asked::Xor => read_and_xor() == ([1, 2, 3, 4, 5], [0, 3, 2, 5, 4]),
         Asked::Lengths => split() == (3, 2, false),
         Asked::Chunks => chunks() == ([1, 2], 3),
         Asked::OnePlace => one_place() == ([1, 2], [0, 3], 2),
@@ -211,10 +211,10 @@ pub fn holds(asked: Asked) -> bool {
         Asked::Lent => lends_a_message(),
         Asked::InFront => message_in_front() == (2, false, [1, 2], [1, 2, 9]),
         Asked::Elsewhere => message_elsewhere() == ([7], [1, 2, 9]),
-        Asked::Parts => written(asked) == [7, 2, 3, 4, 9],
-        Asked::Pair => written(asked) == [1, 2, 6, 7, 9],
-        Asked::Middle => written(asked) == [1, 2, 9, 4, 5],
-        Asked::MessagePair => written(asked) == [6, 7, 9, 4, 5],
+        Asked::Parts => output_of(asked) == [7, 2, 3, 4, 9],
+        Asked::Pair => output_of(asked) == [1, 2, 6, 7, 9],
+        Asked::Middle => output_of(asked) == [1, 2, 9, 4, 5],
+        Asked::MessagePair => output_of(asked) == [6, 7, 9, 4, 5],
     }
 }
 

@@ -23,7 +23,7 @@ impl KeyInit<1> for Shift {
     fn new(key: &[u8; 1]) -> Shift {
         Shift {
             key: key[0],
-            back: negated(key[0]),
+            back: negate(key[0]),
         }
     }
 
@@ -31,7 +31,7 @@ impl KeyInit<1> for Shift {
 }
 
 /// What the number adds up to 256 with.
-pub fn negated(key: u8) -> u8
+pub fn negate(key: u8) -> u8
     ensures { result ≡ (256 - key) % 256 }
 {
     if key == 0 { 0 } else { 255 - key + 1 }

@@ -5,7 +5,7 @@ ghost use Rattle.std.specs.Prelude.{◌≡◌, ◌+◌, ◌-◌, ◌%◌, ℕ, [
 
 use crate::rows;
 use crate::rows::Row;
-use crate::shifted::negated;
+use crate::shifted::negate;
 use cipher::{
     BlockCipherDecrypt, BlockCipherEncrypt, InOut, Tweak, TweakBlockCipherDecBackend,
     TweakBlockCipherDecClosure, TweakBlockCipherDecrypt, TweakBlockCipherEncBackend,
@@ -52,7 +52,7 @@ impl TweakBlockCipherDecBackend<4, 3> for Tweaked {
         ∷ (slice_index xs 2 + (256 - slice_index t 2) % 256) % 256 ∷ slice_index xs 3 ∷ [] };
 
     fn decrypt_block_inout(&self, tweak: &[u8; 3], block: &mut InOut<'_, '_, [u8; 4]>) {
-        let back = [negated(tweak[0]), negated(tweak[1]), negated(tweak[2])];
+        let back = [negate(tweak[0]), negate(tweak[1]), negate(tweak[2])];
         add_bytes(&mut *block.output, block.input, &back);
     }
 
@@ -113,7 +113,7 @@ pub enum How {
 }
 
 // what a block becomes
-fn gone(c: &Tweaked, tweak: &Tweak<3>, how: &How, from: &[u8; 4]) -> [u8; 4] {
+fn block_after(c: &Tweaked, tweak: &Tweak<3>, how: &How, from: &[u8; 4]) -> [u8; 4] {
     let mut block = *from;
     match how {
         How::There => TweakBlockCipherEncrypt::encrypt_block(c, tweak, &mut block),
@@ -166,7 +166,7 @@ pub enum Asked {
 /// Whether it is so.
 pub fn holds(asked: &Asked) -> bool {
     match asked {
-        Asked::Block(how, from, to) => gone(&Tweaked, &TWEAK, how, from) == *to,
+        Asked::Block(how, from, to) => block_after(&Tweaked, &TWEAK, how, from) == *to,
         Asked::Zero => match zero_tweak().clone() {
             Ok(c) => zero_tweak_adds_nothing(&c),
             Err(_) => false,

@@ -123,7 +123,7 @@ pub enum How {
 }
 
 // what a block becomes
-fn gone(how: &How, from: &[u8; 4]) -> [u8; 4] {
+fn block_after(how: &How, from: &[u8; 4]) -> [u8; 4] {
     let mut block = *from;
     match how {
         How::ThereElsewhere => encrypter().encrypt_block_b2b(&TEXT, &mut block),
@@ -154,7 +154,7 @@ fn state_from(iv: &[u8]) -> Result<[u8; 4], InvalidLength> {
     Ok(mode.iv_state())
 }
 
-type Told = Result<(), &'static str>;
+type VectorResult = Result<(), &'static str>;
 
 const LONG_TEXT: &[u8] = &[1, 2, 3, 4, 4, 4, 4, 4];
 
@@ -171,8 +171,8 @@ pub enum Asked {
     FourBytes,
     ThreeBytes,
     // A vector, and what is told.
-    Encryption(TestVector, Told),
-    Decryption(TestVector, Told),
+    Encryption(TestVector, VectorResult),
+    Decryption(TestVector, VectorResult),
 }
 
 /// Whether it is so.
@@ -181,7 +181,7 @@ pub fn holds(asked: &Asked) -> bool {
         Asked::InOrder => up_to_ten_go(),
         Asked::TooMany => refuses_too_many(),
         Asked::TooFew => refuses_too_few(),
-        Asked::Block(how, from, to) => gone(how, from) == *to,
+        Asked::Block(how, from, to) => block_after(how, from) == *to,
         Asked::GoesOn => goes_on(),
         Asked::FourBytes => state_from(&[5; 4]) == Ok([5; 4]),
         Asked::ThreeBytes => state_from(&[0; 3]) == Err(InvalidLength),

@@ -40,7 +40,7 @@ const BOTH: [u8; 20] = [
 /// The buffer over a core with a counter.
 pub(crate) type Cipher = StreamCipherCoreWrapper<Mixed, 16>;
 
-type Told = Result<(), StreamCipherError>;
+type StreamResult = Result<(), StreamCipherError>;
 
 /// One that has given nothing.
 pub(crate) fn fresh() -> Cipher
@@ -62,7 +62,12 @@ fn written_and_applied() -> [[u8; 20]; 2] {
 }
 
 // what is answered, the bytes from place 500 on, and the place behind them
-fn written_from_a_place() -> (Told, Told, [u8; 20], Result<u64, OverflowError>) {
+fn written_from_a_place() -> (
+    StreamResult,
+    StreamResult,
+    [u8; 20],
+    Result<u64, OverflowError>,
+) {
     let mut cipher = fresh();
     let mut bytes = [0; 20];
     let sought = cipher.try_seek(500i32);
@@ -70,7 +75,7 @@ fn written_from_a_place() -> (Told, Told, [u8; 20], Result<u64, OverflowError>) 
     (sought, told, bytes, cipher.try_current_pos::<u64>())
 }
 
-fn in_pieces<C: StreamCipher>(cipher: &mut C, bytes: &mut [u8], size: usize) -> Told
+fn in_pieces<C: StreamCipher>(cipher: &mut C, bytes: &mut [u8], size: usize) -> StreamResult
     requires { 1 ≤ size }
 {
     for piece in bytes.chunks_mut(size) {
@@ -99,7 +104,7 @@ fn pieces_give_the_whole() -> bool {
     same
 }
 
-fn written_whole() -> ([u8; 300], Told) {
+fn written_whole() -> ([u8; 300], StreamResult) {
     let mut bytes = [0; 300];
     let told = fresh().try_write_keystream(&mut bytes);
     (bytes, told)
@@ -160,7 +165,7 @@ fn becomes(how: How, from: &[u8; 20], to: &[u8; 20], told: bool) -> bool {
 // the place of the greatest block, from which no byte is given
 const END: u128 = (1 << 68) - 16;
 
-fn sought(place: u128) -> (Told, Cipher) {
+fn seek_fresh(place: u128) -> (StreamResult, Cipher) {
     let mut cipher = fresh();
     let told = cipher.try_seek(place);
     (told, cipher)
@@ -168,12 +173,12 @@ fn sought(place: u128) -> (Told, Cipher) {
 
 // one byte, no byte, and the place after both
 fn tried_at_the_end() -> (
-    Told,
-    Told,
+    StreamResult,
+    StreamResult,
     Result<u128, OverflowError>,
     Result<u64, OverflowError>,
 ) {
-    let (_, mut cipher) = sought(END);
+    let (_, mut cipher) = seek_fresh(END);
     let one = cipher.try_apply_keystream(&mut [9]);
     let none = cipher.try_apply_keystream(&mut []);
     let place = cipher.try_current_pos::<u128>();
@@ -181,7 +186,7 @@ fn tried_at_the_end() -> (
 }
 
 // what seeks past the end and below 0 answer, and the place after them
-fn sought_outside() -> ([Told; 3], u128) {
+fn sought_outside() -> ([StreamResult; 3], u128) {
     let mut cipher = fresh();
     let past = cipher.try_seek(END + 1);
     let far = cipher.try_seek(END + 16);
@@ -190,8 +195,8 @@ fn sought_outside() -> ([Told; 3], u128) {
 }
 
 // whether two bytes are refused, what one byte answers, and that byte xor 9
-fn last_byte() -> (bool, Told, u8) {
-    let (_, mut cipher) = sought(END - 1);
+fn last_byte() -> (bool, StreamResult, u8) {
+    let (_, mut cipher) = seek_fresh(END - 1);
     let mut byte = [9];
     let refused = cipher.check_remaining(2).is_err();
     let told = cipher.try_apply_keystream(&mut byte);
@@ -207,7 +212,7 @@ const LAST: [u8; 20] = [
 // room bytes, at most 20, from as many before the end on: one more is refused and changes nothing, and none is left
 fn gives_no_more(room: usize) -> bool {
     let room = room.min(20);
-    let (told, mut cipher) = sought(END - room as u128);
+    let (told, mut cipher) = seek_fresh(END - room as u128);
     told == Ok(()) && ends_after(&mut cipher, room)
 }
 
@@ -239,7 +244,7 @@ const GREATEST: u64 = ((1 << 32) - 1) * 4;
 type NumberCipher = StreamCipherCoreWrapper<Numbers, 4>;
 
 // what a seek behind the greatest block answers, and one to it
-fn at_the_greatest() -> ([Told; 2], NumberCipher) {
+fn at_the_greatest() -> ([StreamResult; 2], NumberCipher) {
     let mut cipher = NumberCipher::from_core(Numbers { next: 7 });
     let behind = cipher.try_seek(GREATEST + 1);
     let there = cipher.try_seek(GREATEST);
@@ -247,7 +252,7 @@ fn at_the_greatest() -> ([Told; 2], NumberCipher) {
 }
 
 // n bytes, at most 9, from the greatest block on, and the place behind them
-fn bytes_behind(n: usize) -> (Told, [u8; 9], Result<u128, OverflowError>) {
+fn bytes_behind(n: usize) -> (StreamResult, [u8; 9], Result<u128, OverflowError>) {
     let (_, mut cipher) = at_the_greatest();
     let mut bytes = [0; 9];
     let told = cipher.try_apply_keystream(&mut bytes[..n.min(9)]);
@@ -262,7 +267,7 @@ fn place_behind_three() -> Result<i32, OverflowError> {
 }
 
 // nine bytes in two pieces, the second behind the rest of the greatest block
-fn two_pieces_behind() -> (Told, Told, [u8; 9]) {
+fn two_pieces_behind() -> (StreamResult, StreamResult, [u8; 9]) {
     let (_, mut cipher) = at_the_greatest();
     let mut bytes = [0; 9];
     let first = cipher.try_apply_keystream(&mut bytes[..3]);
@@ -289,7 +294,7 @@ pub fn a_clone_goes_on() -> Result<bool, AllocError> {
 
 type Short = StreamCipherCoreWrapper<Constant, 5>;
 
-fn told(vector: &TestVector) -> Result<(), &'static str> {
+fn run_vector(vector: &TestVector) -> Result<(), &'static str> {
     stream_cipher_test::<Short, 1, 1>(vector)
 }
 
@@ -329,7 +334,7 @@ pub fn holds(asked: &Asked) -> bool {
         Asked::Pieces => pieces_give_the_whole(),
         Asked::Call(how, from, to, told) => becomes(*how, from, to, *told),
         Asked::FreshPlace => fresh().get_core().next == 0,
-        Asked::Vector(vector, want) => told(vector) == *want,
+        Asked::Vector(vector, want) => run_vector(vector) == *want,
         _ => holds_at_ends(asked),
     }
 }
@@ -337,7 +342,7 @@ pub fn holds(asked: &Asked) -> bool {
 fn holds_at_ends(asked: &Asked) -> bool {
     let outside = Err(StreamCipherError);
     match asked {
-        Asked::SoughtEnd => sought(END).0 == Ok(()),
+        Asked::SoughtEnd => seek_fresh(END).0 == Ok(()),
         Asked::TriedAtTheEnd => {
             tried_at_the_end() == (outside, Ok(()), Ok(END), Err(OverflowError))
         }

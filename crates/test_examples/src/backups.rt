@@ -6,7 +6,7 @@ use example_backup::{back_up, restore, restore_part};
 use std::alloc::Global;
 use std::marker::Brand;
 use std::sync::ledger::{Blank, Ledger};
-use test_util::{CTR_35, Told, draws_of, sink_of};
+use test_util::{CTR_35, Verdict, draws_of, sink_of};
 use tink_io::{Kind, SureSink, SureSource, TinkError};
 use tink_range::{MemAt, Steps};
 
@@ -23,14 +23,14 @@ const SEALED: &[u8] = b"\
     \x89/";
 
 /// What becomes of a backup.
-pub fn backups_are_restored(alloc: Global, told: &mut Told) {
-    told.expect(is_backed_up(alloc), Ok(true), "a backup");
-    told.expect(is_restored(alloc, SEALED, b"May"), Ok(true), "its text");
+pub fn backups_are_restored(alloc: Global, verdict: &mut Verdict) {
+    verdict.expect(is_backed_up(alloc), Ok(true), "a backup");
+    verdict.expect(is_restored(alloc, SEALED, b"May"), Ok(true), "its text");
     let other = is_restored(alloc, SEALED, b"June");
-    told.expect(other, Err(Kind::NoMatchingKey), "another date");
+    verdict.expect(other, Err(Kind::NoMatchingKey), "another date");
     let cut = is_restored(alloc, &SEALED[..44], b"May");
-    told.expect(cut, Err(Kind::Truncated(1)), "a cut backup");
-    told.expect(is_part_restored(alloc), Ok(true), "a part of the text");
+    verdict.expect(cut, Err(Kind::Truncated(1)), "a cut backup");
+    verdict.expect(is_part_restored(alloc), Ok(true), "a part of the text");
 }
 
 fn is_backed_up(alloc: Global) -> Result<bool, TinkError> {

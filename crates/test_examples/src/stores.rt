@@ -4,7 +4,7 @@ use example_keys::{add_key, retire};
 use example_store::{StoreError, change_keys, create, get, put};
 use sqlite::{Connection, MemStore, params};
 use std::alloc::Global;
-use test_util::{Told, draws_of, gives, made};
+use test_util::{Verdict, draws_of, gives, succeeds};
 use tink::aead::{AeadKind, WrappedAead};
 use tink::keyset::Manager;
 use tink::{Draws, Kind, Managers, Registry, TinkError};
@@ -16,45 +16,50 @@ const RANDOM: &[u8] = b"\
     fedcba9876543210fedcba9876543210ZZZZthird nonce1fourth nonce";
 
 /// What becomes of the rows of a store.
-pub fn values_are_bound_to_their_rows(alloc: Global, told: &mut Told) {
+pub fn values_are_bound_to_their_rows(alloc: Global, verdict: &mut Verdict) {
     match tink::registry(alloc) {
-        Ok(registry) => by_registry(alloc, told, &registry),
-        Err(e) => told.expect(Err(e), Ok(true), "the registry of a store"),
+        Ok(registry) => by_registry(alloc, verdict, &registry),
+        Err(e) => verdict.expect(Err(e), Ok(true), "the registry of a store"),
     }
 }
 
-fn by_registry(alloc: Global, told: &mut Told, registry: &Registry<Managers>) {
+fn by_registry(alloc: Global, verdict: &mut Verdict, registry: &Registry<Managers>) {
     match draws_of(alloc, RANDOM) {
-        Ok(mut draws) => by_draws(alloc, told, registry, &mut draws),
-        Err(e) => told.expect(Err(e), Ok(true), "the random bytes of a store"),
+        Ok(mut draws) => by_draws(alloc, verdict, registry, &mut draws),
+        Err(e) => verdict.expect(Err(e), Ok(true), "the random bytes of a store"),
     }
 }
 
-fn by_draws(alloc: Global, told: &mut Told, registry: &Registry<Managers>, draws: &mut Draws) {
+fn by_draws(
+    alloc: Global,
+    verdict: &mut Verdict,
+    registry: &Registry<Managers>,
+    draws: &mut Draws,
+) {
     match Connection::open_in_memory(alloc) {
-        Ok(mut store) => by_store(alloc, told, registry, draws, &mut store),
-        Err(_) => told.expect(Ok(false), Ok(true), "a store in memory"),
+        Ok(mut store) => by_store(alloc, verdict, registry, draws, &mut store),
+        Err(_) => verdict.expect(Ok(false), Ok(true), "a store in memory"),
     }
 }
 
 fn by_store(
     alloc: Global,
-    told: &mut Told,
+    verdict: &mut Verdict,
     registry: &Registry<Managers>,
     draws: &mut Draws,
     store: &mut Connection<MemStore>,
 ) {
-    told.expect(done(create(store)), Ok(true), "a table");
+    verdict.expect(done(create(store)), Ok(true), "a table");
     let mut keys = Manager::new(alloc);
     match add_key(alloc, registry, &mut keys, draws) {
-        Ok(first) => by_keys(alloc, told, registry, draws, store, &mut keys, first),
-        Err(e) => told.expect(Err(e), Ok(true), "a key of a store"),
+        Ok(first) => by_keys(alloc, verdict, registry, draws, store, &mut keys, first),
+        Err(e) => verdict.expect(Err(e), Ok(true), "a key of a store"),
     }
 }
 
 fn by_keys(
     alloc: Global,
-    told: &mut Told,
+    verdict: &mut Verdict,
     registry: &Registry<Managers>,
     draws: &mut Draws,
     store: &mut Connection<MemStore>,
@@ -62,24 +67,24 @@ fn by_keys(
     first: u32,
 ) {
     let filled = filled(alloc, registry, keys, draws, store);
-    told.expect(filled, Ok(true), "two rows");
-    let second = made(add_key(alloc, registry, keys, draws));
-    told.expect(second, Ok(true), "a second key");
+    verdict.expect(filled, Ok(true), "two rows");
+    let second = succeeds(add_key(alloc, registry, keys, draws));
+    verdict.expect(second, Ok(true), "a second key");
     let changed = changed(alloc, registry, keys, draws, store);
-    told.expect(changed, Ok(true), "each row encrypted again");
-    let retired = made(retire(keys, first));
-    told.expect(retired, Ok(true), "the first key is disabled");
+    verdict.expect(changed, Ok(true), "each row encrypted again");
+    let retired = succeeds(retire(keys, first));
+    verdict.expect(retired, Ok(true), "the first key is disabled");
     let value = value_of(alloc, registry, keys, store, "anna", b"14 May");
-    told.expect(value, Ok(true), "a row after the rotation");
+    verdict.expect(value, Ok(true), "a row after the rotation");
     let value = value_of(alloc, registry, keys, store, "bert", b"9 November");
-    told.expect(value, Ok(true), "the other row after it");
-    told.expect(Ok(is_moved(store)), Ok(true), "a value that is moved");
+    verdict.expect(value, Ok(true), "the other row after it");
+    verdict.expect(Ok(is_moved(store)), Ok(true), "a value that is moved");
     let value = value_of(alloc, registry, keys, store, "bert", b"14 May");
-    told.expect(value, Err(Kind::DecryptFailed), "no key decrypts it there");
+    verdict.expect(value, Err(Kind::DecryptFailed), "no key decrypts it there");
     let value = value_of(alloc, registry, keys, store, "anna", b"14 May");
-    told.expect(value, Ok(true), "its own row stays");
+    verdict.expect(value, Ok(true), "its own row stays");
     let value = value_of(alloc, registry, keys, store, "carl", b"");
-    told.expect(value, Ok(false), "no such row");
+    verdict.expect(value, Ok(false), "no such row");
 }
 
 // Two rows by the primary key.

@@ -2,7 +2,7 @@
 
 use example_tokens::{add_signing_key, issue, retire, user_of};
 use std::alloc::Global;
-use test_util::{Told, draws_of, gives, made};
+use test_util::{Verdict, draws_of, gives, succeeds};
 use tink::keyset::{Handle, Manager};
 use tink::{Draws, Kind, Managers, Registry, TinkError};
 use tink_proto::{Bytes, Text};
@@ -11,50 +11,55 @@ use tink_proto::{Bytes, Text};
 const RANDOM: &[u8] = b"0123456789abcdef0123456789abcdefYYYYfedcba9876543210fedcba9876543210ZZZZ";
 
 /// What becomes of a token.
-pub fn tokens_outlive_a_rotation(alloc: Global, told: &mut Told) {
+pub fn tokens_outlive_a_rotation(alloc: Global, verdict: &mut Verdict) {
     match tink::registry(alloc) {
-        Ok(registry) => by_registry(alloc, told, &registry),
-        Err(e) => told.expect(Err(e), Ok(true), "the registry"),
+        Ok(registry) => by_registry(alloc, verdict, &registry),
+        Err(e) => verdict.expect(Err(e), Ok(true), "the registry"),
     }
 }
 
-fn by_registry(alloc: Global, told: &mut Told, registry: &Registry<Managers>) {
+fn by_registry(alloc: Global, verdict: &mut Verdict, registry: &Registry<Managers>) {
     match draws_of(alloc, RANDOM) {
-        Ok(mut draws) => by_draws(alloc, told, registry, &mut draws),
-        Err(e) => told.expect(Err(e), Ok(true), "the random bytes"),
+        Ok(mut draws) => by_draws(alloc, verdict, registry, &mut draws),
+        Err(e) => verdict.expect(Err(e), Ok(true), "the random bytes"),
     }
 }
 
-fn by_draws(alloc: Global, told: &mut Told, registry: &Registry<Managers>, draws: &mut Draws) {
+fn by_draws(
+    alloc: Global,
+    verdict: &mut Verdict,
+    registry: &Registry<Managers>,
+    draws: &mut Draws,
+) {
     let mut keys = Manager::new(alloc);
-    let first = made(add_signing_key(alloc, registry, &mut keys, draws));
-    told.expect(first, Ok(true), "a signing key");
+    let first = succeeds(add_signing_key(alloc, registry, &mut keys, draws));
+    verdict.expect(first, Ok(true), "a signing key");
     match token_of(alloc, registry, &keys) {
-        Ok(token) => rotate(alloc, told, registry, draws, &mut keys, &token),
-        Err(e) => told.expect(Err(e), Ok(true), "a token"),
+        Ok(token) => rotate(alloc, verdict, registry, draws, &mut keys, &token),
+        Err(e) => verdict.expect(Err(e), Ok(true), "a token"),
     }
 }
 
 fn rotate(
     alloc: Global,
-    told: &mut Told,
+    verdict: &mut Verdict,
     registry: &Registry<Managers>,
     draws: &mut Draws,
     keys: &mut Manager,
     token: &Text,
 ) {
     let user = name(alloc, registry, keys, token.as_bytes());
-    told.expect(user, Ok(true), "the user of a token");
-    let second = made(add_signing_key(alloc, registry, keys, draws));
-    told.expect(second, Ok(true), "a second signing key");
+    verdict.expect(user, Ok(true), "the user of a token");
+    let second = succeeds(add_signing_key(alloc, registry, keys, draws));
+    verdict.expect(second, Ok(true), "a second signing key");
     let user = name(alloc, registry, keys, token.as_bytes());
-    told.expect(user, Ok(true), "the user after a rotation");
-    let retired = made(retire(keys, u32::from_be_bytes(*b"YYYY")));
-    told.expect(retired, Ok(true), "the first key is disabled");
+    verdict.expect(user, Ok(true), "the user after a rotation");
+    let retired = succeeds(retire(keys, u32::from_be_bytes(*b"YYYY")));
+    verdict.expect(retired, Ok(true), "the first key is disabled");
     let user = name(alloc, registry, keys, token.as_bytes());
-    told.expect(user, Err(Kind::MacMismatch), "no key accepts the token");
+    verdict.expect(user, Err(Kind::MacMismatch), "no key accepts the token");
     let user = name(alloc, registry, keys, b"no token");
-    told.expect(user, Err(Kind::BadToken), "no token");
+    verdict.expect(user, Err(Kind::BadToken), "no token");
 }
 
 // A token of anna by the primary key.

@@ -51,7 +51,7 @@ pub fn cut<'a>(text: &'a str, at: char, otherwise: &'a str) -> (&'a str, &'a str
 }
 
 /// The bytes that were last given a name.
-pub fn known<'a>(kept: &'a [Named], name: &str) -> Option<&'a [u8]> {
+pub fn bytes_named<'a>(kept: &'a [Named], name: &str) -> Option<&'a [u8]> {
     let mut found = None;
     for item in kept {
         if item.name.as_str() == name {
@@ -86,7 +86,7 @@ pub fn put_words(
 }
 
 fn word_of(alloc: Global, kept: &[Named], word: &str) -> Result<String, AllocError> {
-    if let Some(bytes) = known(kept, word) {
+    if let Some(bytes) = bytes_named(kept, word) {
         return hex::encode(alloc, bytes);
     }
     match word.strip_prefix('@') {
@@ -131,7 +131,7 @@ fn put_term(
         return put_counted(bytes, number(count));
     }
     let (name, place) = cut(term, '/', "0/-0");
-    match known(kept, name) {
+    match bytes_named(kept, name) {
         Some(whole) => put_part(bytes, whole, place),
         None => put_part(bytes, &of_digits(alloc, name.as_bytes())?, place),
     }

@@ -89,7 +89,7 @@ pub fn side_of(alloc: Global, words: &[String], place: usize) -> Result<Side, Ti
 }
 
 /// The status of an answer, whose line is written.
-pub fn answered<T: Copy>(answer: Result<T, TinkError>, ends: &mut Ends) -> u8 {
+pub fn status_and_line<T: Copy>(answer: Result<T, TinkError>, ends: &mut Ends) -> u8 {
     match answer {
         Ok(_) => 0,
         Err(e) => {

@@ -3,7 +3,9 @@
 
 pub use bytes::number;
 pub use driver::{Calls, WrongRow, rows};
-pub use ends::{Ends, Side, answered, bytes_of, draws_of, first_of, number_of, setting, side_of};
+pub use ends::{
+    Ends, Side, bytes_of, draws_of, first_of, number_of, setting, side_of, status_and_line,
+};
 
 mod bytes;
 mod driver;

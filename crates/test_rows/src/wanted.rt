@@ -1,6 +1,6 @@
 //! Whether the status, the line and the output are those that a row wants.
 
-use crate::bytes::{Named, cut, known, number, of_digits, put_bytes};
+use crate::bytes::{Named, bytes_named, cut, number, of_digits, put_bytes};
 use hash_keys::Hash;
 use std::alloc::Global;
 use tink_io::TinkError;
@@ -121,7 +121,7 @@ fn is_sized(alloc: Global, bytes: &[u8], wanted: &str) -> Result<bool, TinkError
 // Whether these bytes begin those of a name, and have one of the lengths.
 fn is_front(kept: &[Named], bytes: &[u8], wanted: &str) -> bool {
     let (name, lengths) = cut(wanted, ' ', "");
-    let whole = known(kept, name).unwrap_or(&[]);
+    let whole = bytes_named(kept, name).unwrap_or(&[]);
     let mut one = lengths.is_empty();
     for length in lengths.split(' ') {
         one = one || number(length) == bytes.len();

@@ -2,8 +2,8 @@
 
 use std::alloc::Global;
 use test_util::{
-    Answer, Ask, CTR_4096, CTR_4096_AND_DESTROYED, CTR_4096_ROTATED, Told, bytes_of, draws_of,
-    gives, handle, made,
+    Answer, Ask, CTR_4096, CTR_4096_AND_DESTROYED, CTR_4096_ROTATED, Verdict, bytes_of, draws_of,
+    gives, handle, succeeds,
 };
 use tink::keyset::Manager;
 use tink::streaming_aead::aes128_ctr_hmac_sha256_segment_4kb_key_template as template;
@@ -85,8 +85,8 @@ impl Ask<Edits<'_>> for Step {
         match *self {
             Step::Add(draws, as_primary) => is_added(alloc, of, draws, as_primary),
             Step::Count(count) => Ok(of.manager.key_count() == count),
-            Step::Destroy(id) => made(of.manager.destroy(id)),
-            Step::Delete(id) => made(of.manager.delete(id)),
+            Step::Destroy(id) => succeeds(of.manager.destroy(id)),
+            Step::Delete(id) => succeeds(of.manager.delete(id)),
             Step::Encoded(want) => is_encoded(alloc, &of.manager, want),
         }
     }
@@ -116,7 +116,7 @@ fn is_encoded(alloc: Global, manager: &Manager, want: &[u8]) -> Result<bool, Tin
 }
 
 // A manager of a keyset of one key.
-fn begun(alloc: Global, registry: &Registry<Managers>) -> Result<Edits<'_>, TinkError> {
+fn new_edits(alloc: Global, registry: &Registry<Managers>) -> Result<Edits<'_>, TinkError> {
     let template = template(alloc)?;
     match handle(alloc, CTR_4096) {
         Ok(keyset) => Ok(Edits {
@@ -129,7 +129,7 @@ fn begun(alloc: Global, registry: &Registry<Managers>) -> Result<Edits<'_>, Tink
 }
 
 /// A manager adds a primary key, or another one that it destroys, and the keyset is as it is to be.
-pub fn keysets_are_edited(alloc: Global, told: &mut Told, registry: &Registry<Managers>) {
-    told.walk_made(alloc, begun(alloc, registry), "a manager", DESTROYED);
-    told.walk_made(alloc, begun(alloc, registry), "a manager", ROTATED);
+pub fn keysets_are_edited(alloc: Global, verdict: &mut Verdict, registry: &Registry<Managers>) {
+    verdict.walk_made(alloc, new_edits(alloc, registry), "a manager", DESTROYED);
+    verdict.walk_made(alloc, new_edits(alloc, registry), "a manager", ROTATED);
 }

@@ -92,7 +92,7 @@ fn is_done_under(
 
 const VALUE: &[u8] = b"a value";
 
-fn encrypted(
+fn encrypt_value(
     alloc: Global,
     registry: &Registry<Managers>,
     keyset: &Handle,
@@ -128,9 +128,9 @@ fn later(
     draws: &mut Draws,
     task: Task,
 ) -> Result<Handle, TinkError> {
-    let copy = copied(alloc, keyset)?;
+    let copy = copy_by_json(alloc, keyset)?;
     match task {
-        Task::Rotate => rotated(alloc, registry, copy, kt, draws),
+        Task::Rotate => rotate_keyset(alloc, registry, copy, kt, draws),
         _ => kept_under(alloc, registry, &copy, keyset, draws),
     }
 }
@@ -152,7 +152,7 @@ fn opens_old_data(
     old: &[u8],
     task: Task,
 ) -> Result<bool, TinkError> {
-    let is_alike = match encrypted(alloc, registry, keyset, draws) {
+    let is_alike = match encrypt_value(alloc, registry, keyset, draws) {
         Ok(new) => begins_alike(old, new.as_slice()),
         Err(e) => return Err(e),
     };
@@ -188,7 +188,7 @@ fn old_data_opens(
     draws: &mut Draws,
     task: Task,
 ) -> Result<bool, TinkError> {
-    let old = encrypted(alloc, registry, keyset, draws)?;
+    let old = encrypt_value(alloc, registry, keyset, draws)?;
     let old = old.as_slice();
     match task {
         Task::Encrypt => opens_old_data(alloc, registry, keyset, draws, old, task),
@@ -198,7 +198,7 @@ fn old_data_opens(
 
 // ---- a key is rotated
 
-fn rotated(
+fn rotate_keyset(
     alloc: Global,
     registry: &Registry<Managers>,
     keyset: Handle,
@@ -223,13 +223,13 @@ fn in_json(alloc: Global, keyset: &Handle) -> Result<Vec<u8>, TinkError> {
 }
 
 // A copy of a keyset in JSON.
-fn copied(alloc: Global, keyset: &Handle) -> Result<Handle, TinkError> {
+fn copy_by_json(alloc: Global, keyset: &Handle) -> Result<Handle, TinkError> {
     let text = in_json(alloc, keyset)?;
     insecure::read(alloc, &mut JsonReader::new(SureSource::new(text)))
 }
 
 // The keyset under the AEAD of a master key, in the wire format.
-fn written(
+fn write_under(
     alloc: Global,
     keyset: &Handle,
     master: &WrappedAead<AeadKind>,
@@ -243,13 +243,13 @@ fn written(
 }
 
 // The keyset, after it was written and read so.
-fn kept(
+fn write_and_read(
     alloc: Global,
     keyset: &Handle,
     master: &WrappedAead<AeadKind>,
     draws: &mut Draws,
 ) -> Result<Handle, TinkError> {
-    match written(alloc, keyset, master, draws) {
+    match write_under(alloc, keyset, master, draws) {
         Ok(stored) => {
             let mut reader = BinaryReader::new(SureSource::new(stored));
             Handle::read(alloc, &mut reader, master)
@@ -267,7 +267,7 @@ fn kept_under(
     draws: &mut Draws,
 ) -> Result<Handle, TinkError> {
     match tink::aead::new(alloc, master, registry) {
-        Ok(master) => kept(alloc, keyset, &master, draws),
+        Ok(master) => write_and_read(alloc, keyset, &master, draws),
         Err(e) => Err(e),
     }
 }

@@ -1,11 +1,11 @@
 //! Envelopes over a remote key.
 
 ghost use Rattle.std.specs.Prelude.{[]};
-ghost use Rattle.tink_io.specs.Told.{Answers};
+ghost use Rattle.tink_io.specs.Answering.{Answers};
 ghost use Rattle.tink_aead.specs.Envelope.{data_key_aead, envelope_decrypts};
 
 use std::alloc::Global;
-use test_util::{Answer, Told, draws_of, gives, kind_of, registry_of, template};
+use test_util::{Answer, Verdict, draws_of, gives, kind_of, registry_of, template};
 use tink_aead::subtle::{AesCtr, AesGcm, EncryptThenAuthenticate};
 use tink_aead::{AES_GCM_TYPE_URL, AesGcmKeyManager, KmsEnvelopeAead, aes128_gcm_key_template};
 use tink_core::registry::{KeyManager, Registry};
@@ -181,7 +181,7 @@ fn does_with<M: KeyManager + Drop>(
     }
 }
 
-fn answered(alloc: Global, of: &Of, asked: &Asked) -> Result<bool, TinkError> {
+fn answer_row(alloc: Global, of: &Of, asked: &Asked) -> Result<bool, TinkError> {
     match of {
         Of::Macs => does_with(alloc, HmacKeyManager::new(), of, asked),
         _ => does_with(alloc, AesGcmKeyManager::new(), of, asked),
@@ -359,8 +359,8 @@ const ROWS: &[(&str, Of, Asked, Answer)] = &[
     ),
 ];
 
-pub fn envelopes_seal_open_and_refuse(alloc: Global, told: &mut Told) {
+pub fn envelopes_seal_open_and_refuse(alloc: Global, verdict: &mut Verdict) {
     for (row, of, asked, want) in ROWS {
-        told.expect(answered(alloc, of, asked), *want, row);
+        verdict.expect(answer_row(alloc, of, asked), *want, row);
     }
 }

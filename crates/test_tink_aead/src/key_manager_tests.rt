@@ -1,7 +1,7 @@
 //! Which keys the managers build, and which formats make keys.
 
 use std::alloc::Global;
-use test_util::{Answer, Told, draws_of, made};
+use test_util::{Answer, Verdict, draws_of, succeeds};
 use tink_aead::{
     AES_CTR_HMAC_AEAD_KEY_VERSION, AES_GCM_KEY_VERSION, AES_GCM_SIV_KEY_VERSION,
     AesCtrHmacAeadKeyManager, AesGcmKeyManager, AesGcmSivKeyManager,
@@ -31,7 +31,7 @@ fn makes<M: KeyManager>(
     left: usize,
 ) -> Result<bool, TinkError> {
     let mut draws = draws_of(alloc, &[7; 50][..n.min(50)])?;
-    let answer = made(km.new_key(alloc, format, &mut draws));
+    let answer = succeeds(km.new_key(alloc, format, &mut draws));
     if draws.left() == left {
         answer
     } else {
@@ -41,12 +41,12 @@ fn makes<M: KeyManager>(
 
 fn does<M: KeyManager + Drop>(alloc: Global, km: M, asked: &Asked) -> Result<bool, TinkError> {
     match asked {
-        Asked::Build(key) => made(km.primitive(alloc, key)),
+        Asked::Build(key) => succeeds(km.primitive(alloc, key)),
         Asked::Make(format, n, left) => makes(alloc, &km, format, *n, *left),
     }
 }
 
-fn answered(alloc: Global, manager: &Manager, asked: &Asked) -> Result<bool, TinkError> {
+fn answer_row(alloc: Global, manager: &Manager, asked: &Asked) -> Result<bool, TinkError> {
     match manager {
         Manager::Gcm => does(alloc, AesGcmKeyManager::new(), asked),
         Manager::GcmSiv => does(alloc, AesGcmSivKeyManager::new(), asked),
@@ -274,10 +274,10 @@ const TWO_PARTS: &[Row] = &[
 
 const TABLES: &[&[Row]] = &[ONE_PART, TWO_PARTS];
 
-pub fn keys_and_formats_by_their_messages(alloc: Global, told: &mut Told) {
+pub fn keys_and_formats_by_their_messages(alloc: Global, verdict: &mut Verdict) {
     for rows in TABLES {
         for (row, manager, asked, want) in *rows {
-            told.expect(answered(alloc, manager, asked), *want, row);
+            verdict.expect(answer_row(alloc, manager, asked), *want, row);
         }
     }
     let versions = [
@@ -285,5 +285,5 @@ pub fn keys_and_formats_by_their_messages(alloc: Global, told: &mut Told) {
         AES_GCM_SIV_KEY_VERSION,
         AES_CTR_HMAC_AEAD_KEY_VERSION,
     ];
-    told.expect(Ok(versions == [0; 3]), Ok(true), "the versions");
+    verdict.expect(Ok(versions == [0; 3]), Ok(true), "the versions");
 }

@@ -1,7 +1,7 @@
 //! The templates, by formats that were spelled by hand, and what `init` registers.
 
 use std::alloc::Global;
-use test_util::{Answer, Named, Told, made};
+use test_util::{Answer, Named, Verdict, succeeds};
 use tink_aead::{
     AES_CTR_HMAC_AEAD_TYPE_URL, AES_GCM_SIV_TYPE_URL, AES_GCM_TYPE_URL, AeadKinds,
     KMS_ENVELOPE_AEAD_KEY_VERSION, KMS_ENVELOPE_AEAD_TYPE_URL, aes128_ctr_hmac_sha256_key_template,
@@ -92,10 +92,10 @@ fn are_names(names: Result<Vec<Text>, TinkError>, n: usize) -> Result<bool, Tink
     }
 }
 
-fn answered(alloc: Global, registry: &mut Registered, step: &Step) -> Result<bool, TinkError> {
+fn answer_row(alloc: Global, registry: &mut Registered, step: &Step) -> Result<bool, TinkError> {
     match step {
-        Step::Manage(url) => made(registry.register_key_manager(alloc, Named::new(url))),
-        Step::Init => made(init(alloc, registry)),
+        Step::Manage(url) => succeeds(registry.register_key_manager(alloc, Named::new(url))),
+        Step::Init => succeeds(init(alloc, registry)),
         Step::Template(template) => is_made(registry, template_of(alloc, template.0), template),
         Step::Names(n) => are_names(registry.template_names(alloc), *n),
         Step::HasNot(url) => Ok(registry.get_key_manager(url).is_err()),
@@ -225,14 +225,14 @@ const BESIDE: &[Row] = &[
 // The tables are of a new registry each.
 const TABLES: &[&[Row]] = &[ALL, BESIDE];
 
-fn walk(told: &mut Told, alloc: Global, registry: &mut Registered, rows: &[Row]) {
+fn walk(verdict: &mut Verdict, alloc: Global, registry: &mut Registered, rows: &[Row]) {
     for (row, step, want) in rows {
-        told.expect(answered(alloc, registry, step), *want, row);
+        verdict.expect(answer_row(alloc, registry, step), *want, row);
     }
 }
 
-pub fn templates_and_managers_are_registered_once(alloc: Global, told: &mut Told) {
+pub fn templates_and_managers_are_registered_once(alloc: Global, verdict: &mut Verdict) {
     for rows in TABLES {
-        walk(told, alloc, &mut Registry::new(alloc), rows);
+        walk(verdict, alloc, &mut Registry::new(alloc), rows);
     }
 }

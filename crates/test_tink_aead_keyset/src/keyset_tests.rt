@@ -1,11 +1,11 @@
 //! The AEADs of keysets.
 
 ghost use Rattle.std.specs.Prelude.{[]};
-ghost use Rattle.tink_io.specs.Told.{Replies};
+ghost use Rattle.tink_io.specs.Answering.{Replies};
 ghost use Rattle.tink_aead.specs.Wrapped.{primary_encrypts};
 
 use std::alloc::Global;
-use test_util::{Answer, Ask, Told, asked, draws_of, gives, handle, registry_of};
+use test_util::{Answer, Ask, Verdict, ask_made, draws_of, gives, handle, registry_of};
 use tink_aead::{
     AeadKind, AesCtrHmacAeadKeyManager, AesGcmKeyManager, AesGcmSivKeyManager, WrappedAead,
     aes128_ctr_hmac_sha256_key_template, aes128_gcm_key_template,
@@ -211,9 +211,9 @@ const NEW_KEYS: &[(&str, Template, Size, Answer)] = &[
     ),
 ];
 
-pub fn texts_by_new_keys(alloc: Global, told: &mut Told) {
+pub fn texts_by_new_keys(alloc: Global, verdict: &mut Verdict) {
     for (row, template, size, want) in NEW_KEYS {
-        told.expect(asked(alloc, new_aead(alloc, template), size), *want, row);
+        verdict.expect(ask_made(alloc, new_aead(alloc, template), size), *want, row);
     }
 }
 
@@ -271,7 +271,7 @@ fn asked_of(
     keys: &[u8],
     call: &Call,
 ) -> Result<bool, TinkError> {
-    asked(alloc, aead_of(alloc, registry, handle(alloc, keys)), call)
+    ask_made(alloc, aead_of(alloc, registry, handle(alloc, keys)), call)
 }
 
 enum Asked {
@@ -422,7 +422,7 @@ fn rotate(
 }
 
 // The keys after a rotation by the template.
-fn rotated(
+fn rotate_keyset(
     alloc: Global,
     registry: &Registry<AesGcmKeyManager>,
     kt: &KeyTemplate,
@@ -436,7 +436,7 @@ fn rotated(
 }
 
 fn copy_opens(alloc: Global, aead: &WrappedAead<AeadKind>) -> Result<bool, TinkError> {
-    asked(alloc, aead.try_clone(alloc), &Call::OpenBoth)
+    ask_made(alloc, aead.try_clone(alloc), &Call::OpenBoth)
 }
 
 // The newer one is made, and both are decrypted, by a copy too.
@@ -461,10 +461,10 @@ fn outlives_a_rotation(
     kt: &KeyTemplate,
     h: Handle,
 ) -> Result<bool, TinkError> {
-    match asked(alloc, new(alloc, &h, registry), &Call::Seal(12, OLD)) {
-        Ok(true) => asked(
+    match ask_made(alloc, new(alloc, &h, registry), &Call::Seal(12, OLD)) {
+        Ok(true) => ask_made(
             alloc,
-            aead_of(alloc, registry, rotated(alloc, registry, kt, h)),
+            aead_of(alloc, registry, rotate_keyset(alloc, registry, kt, h)),
             &Later,
         ),
         other => other,
@@ -490,8 +490,8 @@ fn rotates(alloc: Global, registry: &Registry<AesGcmKeyManager>) -> Result<bool,
 }
 
 /// Each row of a keyset, and that the law holds of these types.
-pub fn keysets_are_as_the_rows_say(alloc: Global, told: &mut Told) {
+pub fn keysets_are_as_the_rows_say(alloc: Global, verdict: &mut Verdict) {
     let made = registry_of(alloc, AesGcmKeyManager::new());
-    told.walk_made(alloc, made, "the registry", KEYSETS);
+    verdict.walk_made(alloc, made, "the registry", KEYSETS);
     law_ciphertexts_outlive_commands::<AesGcmKeyManager, AeadKind>();
 }

@@ -1,7 +1,7 @@
 //! Keysets under an AES-GCM master key, over memory and over ends in the wire format and in JSON.
 
 use std::alloc::Global;
-use test_util::{Answer, Ask, Told, asked, bytes_of, draws_of, gives, handle};
+use test_util::{Answer, Ask, Verdict, ask_made, bytes_of, draws_of, gives, handle};
 use tink_aead::subtle::AesGcm;
 use tink_core::keyset::{Handle, MemReaderWriter, Reader, Writer};
 use tink_core::{Kind, MemSink, MemSource, TinkError};
@@ -171,7 +171,7 @@ fn in_json(
     text_of(told, writer.into_inner())
 }
 
-fn written(alloc: Global, kept: &Kept, row: &Row) -> Result<Vec<u8>, TinkError> {
+fn write_row(alloc: Global, kept: &Kept, row: &Row) -> Result<Vec<u8>, TinkError> {
     match sink_of(alloc) {
         Ok(sink) => match row.format {
             Format::Wire => in_wire(alloc, sink, kept, row.written_with),
@@ -192,7 +192,7 @@ fn is_read_of(alloc: Global, text: Vec<u8>, master: &AesGcm, row: &Row) -> Resul
 
 // Whether the keyset is written so that its text begins and ends so, and read from it.
 fn is_kept_as(alloc: Global, kept: &Kept, row: &Row) -> Result<bool, TinkError> {
-    match written(alloc, kept, row) {
+    match write_row(alloc, kept, row) {
         Ok(text) => {
             let framed = text.starts_with(row.begins) & text.ends_with(row.ends);
             match is_read_of(alloc, text, &kept.master, row) {
@@ -221,7 +221,7 @@ enum Asked {
 impl Ask<Kept> for Asked {
     fn answer(&self, alloc: Global, kept: &mut Kept) -> Result<bool, TinkError> {
         match *self {
-            Asked::Memory => asked(alloc, Ok(MemReaderWriter::default()), kept),
+            Asked::Memory => ask_made(alloc, Ok(MemReaderWriter::default()), kept),
             Asked::Text(ref row) => is_kept_as(alloc, kept, row),
         }
     }
@@ -300,8 +300,8 @@ fn master_and_keyset(alloc: Global) -> Result<Kept, TinkError> {
     }
 }
 
-pub fn a_keyset_is_kept_in_memory_and_in_a_text(alloc: Global, told: &mut Told) {
-    told.walk_made(
+pub fn a_keyset_is_kept_in_memory_and_in_a_text(alloc: Global, verdict: &mut Verdict) {
+    verdict.walk_made(
         alloc,
         master_and_keyset(alloc),
         "the master key and the keyset",

@@ -2,7 +2,7 @@
 
 use crate::asking::{Asked, Sealed, does_if_made};
 use std::alloc::Global;
-use test_util::{Answer, Told};
+use test_util::{Answer, Verdict};
 use tink_aead_subtle::{AesCtr, EncryptThenAuthenticate};
 use tink_io::{Kind, TinkError};
 use tink_mac::subtle::Hmac;
@@ -39,7 +39,7 @@ const SEALED: &Sealed = &Sealed {
     sealed: b"\xc8\xc9\xca\xcb\xcc\xcd\xce\xcf\xd0\xd1\xd2\xd3\xd4\xd5\xd6\xd7\x6d\xf5\x7e\xc0\xc4\xfe\xaa\x99\x39\xd1\x5d\xe4\xcb\xeb\x37\xe4\xe1\x8f\x2e",
 };
 
-fn answered(alloc: Global, tag_size: usize, asked: &Asked) -> Result<bool, TinkError> {
+fn answer_row(alloc: Global, tag_size: usize, asked: &Asked) -> Result<bool, TinkError> {
     does_if_made(alloc, aead_of(alloc, tag_size), SEALED, asked)
 }
 
@@ -97,8 +97,8 @@ const ROWS: &[(&str, usize, Asked, Answer)] = &[
     ),
 ];
 
-pub fn encrypts_and_authenticates(alloc: Global, told: &mut Told) {
+pub fn encrypts_and_authenticates(alloc: Global, verdict: &mut Verdict) {
     for (row, tag_size, asked, want) in ROWS {
-        told.expect(answered(alloc, *tag_size, asked), *want, row);
+        verdict.expect(answer_row(alloc, *tag_size, asked), *want, row);
     }
 }

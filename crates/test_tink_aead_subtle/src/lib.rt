@@ -6,13 +6,13 @@ mod composed_tests;
 mod subtle_tests;
 
 use std::alloc::Global;
-use test_util::Told;
+use test_util::Verdict;
 
 /// The answers of all rows.
-pub fn rows(alloc: Global) -> Told {
-    let mut told = Told::new();
-    composed_tests::encrypts_and_authenticates(alloc, &mut told);
-    subtle_tests::ciphertexts_are_those_of_the_specifications(alloc, &mut told);
-    subtle_tests::sizes_are_taken_or_refused(alloc, &mut told);
-    told
+pub fn rows(alloc: Global) -> Verdict {
+    let mut verdict = Verdict::new();
+    composed_tests::encrypts_and_authenticates(alloc, &mut verdict);
+    subtle_tests::ciphertexts_are_those_of_the_specifications(alloc, &mut verdict);
+    subtle_tests::sizes_are_taken_or_refused(alloc, &mut verdict);
+    verdict
 }

@@ -1,12 +1,12 @@
 //! Outside vectors, refusals and copies of the AEADs by AES under one key.
 
 ghost use Rattle.std.specs.Prelude.{[]};
-ghost use Rattle.tink_io.specs.Told.{Answers};
+ghost use Rattle.tink_io.specs.Answering.{Answers};
 ghost use Rattle.tink_aead_subtle.specs.AesAeads.{gcm_decrypts};
 
 use crate::asking::{Asked, Sealed, does_if_made};
 use std::alloc::Global;
-use test_util::{Answer, Told, draws_of, gives, kind_of};
+use test_util::{Answer, Verdict, draws_of, gives, kind_of};
 use tink_aead_subtle::{
     AES_BLOCK_SIZE_IN_BYTES, AES_CTR_MIN_IV_SIZE, AES_GCM_IV_SIZE, AES_GCM_SIV_NONCE_SIZE,
     AES_GCM_SIV_TAG_SIZE, AES_GCM_TAG_SIZE, AesCtr, AesGcm, AesGcmSiv, IndCpaCipher,
@@ -153,7 +153,7 @@ const CTR_VECTORS: &[CtrVector] = &[
     ),
 ];
 
-fn answered(
+fn answer_row(
     alloc: Global,
     of: &Of,
     key: &[u8],
@@ -192,16 +192,16 @@ const OF_VECTOR: &[(Asked, Answer)] = &[
     (Asked::Changes(Kind::DecryptFailed), Ok(true)),
 ];
 
-pub fn ciphertexts_are_those_of_the_specifications(alloc: Global, told: &mut Told) {
+pub fn ciphertexts_are_those_of_the_specifications(alloc: Global, verdict: &mut Verdict) {
     for (row, of, key, sealed) in VECTORS {
         for (asked, want) in OF_VECTOR {
-            told.expect(answered(alloc, of, key, sealed, asked), *want, row);
+            verdict.expect(answer_row(alloc, of, key, sealed, asked), *want, row);
         }
     }
     for (row, key, iv_size, sealed) in CTR_VECTORS {
-        told.expect(applies(alloc, key, *iv_size, sealed), Ok(true), row);
+        verdict.expect(applies(alloc, key, *iv_size, sealed), Ok(true), row);
     }
-    told.expect(opens_empty(alloc), Ok(true), "an empty text");
+    verdict.expect(opens_empty(alloc), Ok(true), "an empty text");
 }
 
 // ---- sizes
@@ -216,7 +216,7 @@ fn answers_on_a_key(alloc: Global, key: &[u8], want: Option<Kind>) -> bool {
 }
 
 // What is to be answered on a size.
-fn told(is_good: bool, kind: Kind) -> Option<Kind> {
+fn kind_if_bad(is_good: bool, kind: Kind) -> Option<Kind> {
     if is_good { None } else { Some(kind) }
 }
 
@@ -224,8 +224,8 @@ fn told(is_good: bool, kind: Kind) -> Option<Kind> {
 fn are_taken(alloc: Global, n: usize) -> bool {
     let key = [7u8; 64];
     let vector = kind_of(AesCtr::new(alloc, &[0; 16], n));
-    let of_keys = told(n == 16 || n == 32, Kind::BadKeySize);
-    let of_vectors = told(n >= 12 && n <= 16, Kind::BadIvSize);
+    let of_keys = kind_if_bad(n == 16 || n == 32, Kind::BadKeySize);
+    let of_vectors = kind_if_bad(n >= 12 && n <= 16, Kind::BadIvSize);
     answers_on_a_key(alloc, &key[..n.min(64)], of_keys) && vector == of_vectors
 }
 
@@ -345,13 +345,13 @@ const IV_SIZES: &[(&str, usize, AskedOfCtr, Answer)] = &[
 ];
 
 /// Keys and vectors of each size, and a cipher by its size of vectors.
-pub fn sizes_are_taken_or_refused(alloc: Global, told: &mut Told) {
+pub fn sizes_are_taken_or_refused(alloc: Global, verdict: &mut Verdict) {
     for n in 0..64usize {
         let taken = are_taken(alloc, n);
-        told.expect(Ok(taken), Ok(true), "a key and a vector of a size");
+        verdict.expect(Ok(taken), Ok(true), "a key and a vector of a size");
     }
     for (row, iv_size, asked, want) in IV_SIZES {
-        told.expect(does(alloc, *iv_size, asked), *want, row);
+        verdict.expect(does(alloc, *iv_size, asked), *want, row);
     }
-    told.expect(have_their_sizes(alloc), Ok(true), "the sizes");
+    verdict.expect(have_their_sizes(alloc), Ok(true), "the sizes");
 }

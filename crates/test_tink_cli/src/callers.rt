@@ -6,7 +6,7 @@ ghost use Rattle.tink_cli_jobs.specs.Outputs.{KeepsFiles};
 use crate::known::TEXT;
 use crate::steps::words_of;
 use std::alloc::Global;
-use test_util::{CTR_35, Told, sink_of};
+use test_util::{CTR_35, Verdict, sink_of};
 use tink_cli::run;
 use tink_cli_streams::streams;
 use tink_cli_words::{Action, Line, parse};
@@ -50,10 +50,10 @@ pub fn done<Y: System>(alloc: Global, system: &mut Y, words: &[Vec<u8>]) -> u8
 }
 
 /// What the callers do.
-pub fn callers_do_what_they_say(alloc: Global, told: &mut Told) {
-    told.expect(has_first_byte(alloc), Ok(true), "the first byte of a file");
-    told.expect(is_done(alloc), Ok(true), "a version without room for it");
-    told.expect(
+pub fn callers_do_what_they_say(alloc: Global, verdict: &mut Verdict) {
+    verdict.expect(has_first_byte(alloc), Ok(true), "the first byte of a file");
+    verdict.expect(is_done(alloc), Ok(true), "a version without room for it");
+    verdict.expect(
         is_refused(alloc),
         Ok(true),
         "encrypted without random bytes",

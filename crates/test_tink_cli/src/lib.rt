@@ -7,14 +7,14 @@ mod steps;
 mod tables;
 
 use std::alloc::Global;
-use test_util::Told;
+use test_util::Verdict;
 
 /// The answers of all rows.
-pub fn rows(alloc: Global) -> Told {
-    let mut told = Told::new();
-    callers::callers_do_what_they_say(alloc, &mut told);
-    tables::files_of_keys(alloc, &mut told);
-    tables::streams(alloc, &mut told);
-    tables::others(alloc, &mut told);
-    told
+pub fn rows(alloc: Global) -> Verdict {
+    let mut verdict = Verdict::new();
+    callers::callers_do_what_they_say(alloc, &mut verdict);
+    tables::files_of_keys(alloc, &mut verdict);
+    tables::streams(alloc, &mut verdict);
+    tables::others(alloc, &mut verdict);
+    verdict
 }

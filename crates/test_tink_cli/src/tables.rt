@@ -6,7 +6,7 @@ use crate::known::{
 };
 use crate::steps::{Step, World};
 use std::alloc::Global;
-use test_util::{CTR_35, Told};
+use test_util::{CTR_35, Verdict};
 use tink_io::Kind;
 
 type Row = (&'static str, Step, Result<bool, Kind>);
@@ -436,84 +436,84 @@ const TEXTS: &[Row] = &[
     ),
 ];
 
-fn walk(alloc: Global, told: &mut Told, name: &'static str, rows: &[Row]) {
-    told.walk_made(alloc, World::new(alloc), name, rows);
+fn walk(alloc: Global, verdict: &mut Verdict, name: &'static str, rows: &[Row]) {
+    verdict.walk_made(alloc, World::new(alloc), name, rows);
 }
 
 // A function names one table: what it costs grows with the square of its literals.
-fn new_files(alloc: Global, told: &mut Told) {
-    walk(alloc, told, "a world for new files", NEW);
+fn new_files(alloc: Global, verdict: &mut Verdict) {
+    walk(alloc, verdict, "a world for new files", NEW);
 }
 
-fn formats(alloc: Global, told: &mut Told) {
-    walk(alloc, told, "a world for formats", CONVERTED);
+fn formats(alloc: Global, verdict: &mut Verdict) {
+    walk(alloc, verdict, "a world for formats", CONVERTED);
 }
 
-fn new_keys(alloc: Global, told: &mut Told) {
-    walk(alloc, told, "a world for new keys", GROWN);
+fn new_keys(alloc: Global, verdict: &mut Verdict) {
+    walk(alloc, verdict, "a world for new keys", GROWN);
 }
 
-fn other_keys(alloc: Global, told: &mut Told) {
-    walk(alloc, told, "a world for other keys", OTHER_PRIMITIVE);
+fn other_keys(alloc: Global, verdict: &mut Verdict) {
+    walk(alloc, verdict, "a world for other keys", OTHER_PRIMITIVE);
 }
 
-fn edits(alloc: Global, told: &mut Told) {
-    walk(alloc, told, "a world for edits", EDITED);
+fn edits(alloc: Global, verdict: &mut Verdict) {
+    walk(alloc, verdict, "a world for edits", EDITED);
 }
 
-fn errors(alloc: Global, told: &mut Told) {
-    walk(alloc, told, "a world for errors", UNREAD);
+fn errors(alloc: Global, verdict: &mut Verdict) {
+    walk(alloc, verdict, "a world for errors", UNREAD);
 }
 
-fn whole_streams(alloc: Global, told: &mut Told) {
-    walk(alloc, told, "a world for streams", STREAMS);
+fn whole_streams(alloc: Global, verdict: &mut Verdict) {
+    walk(alloc, verdict, "a world for streams", STREAMS);
 }
 
-fn wrong_streams(alloc: Global, told: &mut Told) {
-    walk(alloc, told, "a world for wrong streams", OPENED);
+fn wrong_streams(alloc: Global, verdict: &mut Verdict) {
+    walk(alloc, verdict, "a world for wrong streams", OPENED);
 }
 
-fn outputs(alloc: Global, told: &mut Told) {
-    walk(alloc, told, "a world for outputs", PROTECTED);
+fn outputs(alloc: Global, verdict: &mut Verdict) {
+    walk(alloc, verdict, "a world for outputs", PROTECTED);
 }
 
-fn parts(alloc: Global, told: &mut Told) {
+fn parts(alloc: Global, verdict: &mut Verdict) {
     walk(
         alloc,
-        told,
+        verdict,
         "a world for tokens and ranges",
         TOKENS_AND_RANGES,
     );
 }
 
-fn masters(alloc: Global, told: &mut Told) {
-    walk(alloc, told, "a world for masters", MASTERS);
+fn masters(alloc: Global, verdict: &mut Verdict) {
+    walk(alloc, verdict, "a world for masters", MASTERS);
 }
 
-fn texts(alloc: Global, told: &mut Told) {
-    walk(alloc, told, "a world for texts", TEXTS);
+fn texts(alloc: Global, verdict: &mut Verdict) {
+    walk(alloc, verdict, "a world for texts", TEXTS);
 }
 
 /// Takes what the rows over files of keys answer.
-pub fn files_of_keys(alloc: Global, told: &mut Told) {
-    new_files(alloc, told);
-    formats(alloc, told);
-    new_keys(alloc, told);
-    other_keys(alloc, told);
-    edits(alloc, told);
-    errors(alloc, told);
+pub fn files_of_keys(alloc: Global, verdict: &mut Verdict) {
+    new_files(alloc, verdict);
+    formats(alloc, verdict);
+    new_keys(alloc, verdict);
+    other_keys(alloc, verdict);
+    edits(alloc, verdict);
+    errors(alloc, verdict);
 }
 
 /// The same of streams.
-pub fn streams(alloc: Global, told: &mut Told) {
-    whole_streams(alloc, told);
-    wrong_streams(alloc, told);
-    outputs(alloc, told);
-    parts(alloc, told);
+pub fn streams(alloc: Global, verdict: &mut Verdict) {
+    whole_streams(alloc, verdict);
+    wrong_streams(alloc, verdict);
+    outputs(alloc, verdict);
+    parts(alloc, verdict);
 }
 
 /// The same of master keysets and of texts.
-pub fn others(alloc: Global, told: &mut Told) {
-    masters(alloc, told);
-    texts(alloc, told);
+pub fn others(alloc: Global, verdict: &mut Verdict) {
+    masters(alloc, verdict);
+    texts(alloc, verdict);
 }

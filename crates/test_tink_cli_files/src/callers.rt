@@ -10,11 +10,11 @@ ghost use Rattle.tink_rewrap.specs.Rewrapping.{sides};
 ghost use Rattle.tink_run.specs.Run.{IsWholeStream};
 ghost use Rattle.tink_tokens.specs.Tokens.{RefusesVerifying, TokenMeans, VerifiesTo};
 
-use crate::support::{counted, stream_of};
+use crate::support::{counting_bytes, stream_of};
 use std::alloc::Global;
 use std::marker::Brand;
 use std::sync::ledger::{Blank, Ledger};
-use test_util::{CTR_35, CTR_4096, GCM_41, Told, made, sink_of};
+use test_util::{CTR_35, CTR_4096, GCM_41, Verdict, sink_of, succeeds};
 use tink_io::{Draws, Kind, Sink, SureSink, SureSource, TinkError};
 use tink_keygen::{key_line, keygen};
 use tink_range::{MemAt, ReadAt, Steps};
@@ -93,7 +93,7 @@ fn payload_in_memory(
 
 // Whether a new keyset has its line.
 fn is_line(alloc: Global) -> Result<bool, TinkError> {
-    let mut draws = Draws::new(counted(alloc, 20)?);
+    let mut draws = Draws::new(counting_bytes(alloc, 20)?);
     match new_line(alloc, &mut draws) {
         Ok(line) => Ok(line.ends_with(b"\n") & (line.len() == 185)),
         Err(e) => Err(e),
@@ -130,7 +130,7 @@ enum Does {
 
 // Whether it is done to a sink with room for so many bytes.
 fn is_done(alloc: Global, does: &Does, room: usize) -> Result<bool, TinkError> {
-    let mut draws = Draws::new(counted(alloc, 23)?);
+    let mut draws = Draws::new(counting_bytes(alloc, 23)?);
     let mut sink = sink_of(alloc, room)?;
     match *does {
         Does::Seal => seals(alloc, &mut draws, &mut sink),
@@ -196,10 +196,14 @@ fn is_page(alloc: Global) -> Result<bool, TinkError> {
     }
 }
 
-pub fn callers_do_what_they_say(alloc: Global, told: &mut Told) {
-    told.expect(is_done(alloc, &Does::Seal, 56), Ok(true), "a seal");
-    told.expect(is_done(alloc, &Does::Move, 41), Ok(true), "a move");
-    told.expect(is_line(alloc), Ok(true), "the line of a new keyset");
-    told.expect(made(no_payload(alloc)), Err(Kind::BadKeyset), "no payload");
-    told.expect(is_page(alloc), Ok(true), "a page of a sealed file");
+pub fn callers_do_what_they_say(alloc: Global, verdict: &mut Verdict) {
+    verdict.expect(is_done(alloc, &Does::Seal, 56), Ok(true), "a seal");
+    verdict.expect(is_done(alloc, &Does::Move, 41), Ok(true), "a move");
+    verdict.expect(is_line(alloc), Ok(true), "the line of a new keyset");
+    verdict.expect(
+        succeeds(no_payload(alloc)),
+        Err(Kind::BadKeyset),
+        "no payload",
+    );
+    verdict.expect(is_page(alloc), Ok(true), "a page of a sealed file");
 }

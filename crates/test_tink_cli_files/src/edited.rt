@@ -1,8 +1,8 @@
 //! `run` under keysets that a manager edited: those that `test_tink` has edited, to the byte.
 
-use crate::support::{counted, opened, stream_of};
+use crate::support::{counting_bytes, decrypt_stream, stream_of};
 use std::alloc::Global;
-use test_util::{CTR_4096, CTR_4096_AND_DESTROYED, CTR_4096_ROTATED, Told};
+use test_util::{CTR_4096, CTR_4096_AND_DESTROYED, CTR_4096_ROTATED, Verdict};
 use tink_io::TinkError;
 
 // The bytes of a text of two segments.
@@ -10,8 +10,8 @@ const TWO_SEGMENTS: usize = 4041;
 
 // Whether a stream opens to the text of two segments.
 fn opens(alloc: Global, keyset: &[u8], stream: Vec<u8>) -> Result<bool, TinkError> {
-    let text = counted(alloc, TWO_SEGMENTS)?;
-    match opened(alloc, keyset, stream) {
+    let text = counting_bytes(alloc, TWO_SEGMENTS)?;
+    match decrypt_stream(alloc, keyset, stream) {
         Ok(got) => Ok(got.as_slice() == text.as_slice()),
         Err(e) => Err(e),
     }
@@ -28,9 +28,9 @@ fn seals_and_opens(alloc: Global, edited: &[u8], to_other: bool) -> Result<bool,
     }
 }
 
-pub fn edited_keysets_run(alloc: Global, told: &mut Told) {
+pub fn edited_keysets_run(alloc: Global, verdict: &mut Verdict) {
     let destroyed = seals_and_opens(alloc, CTR_4096_AND_DESTROYED, false);
-    told.expect(destroyed, Ok(true), "a key is added and destroyed");
+    verdict.expect(destroyed, Ok(true), "a key is added and destroyed");
     let rotated = seals_and_opens(alloc, CTR_4096_ROTATED, true);
-    told.expect(rotated, Ok(true), "a stream opens after a rotation");
+    verdict.expect(rotated, Ok(true), "a stream opens after a rotation");
 }

@@ -2,7 +2,7 @@
 
 use crate::saving_tests::{KEYS, MASTER, PROMOTED, ROTATED};
 use std::alloc::Global;
-use test_util::{Told, draws_of};
+use test_util::{Verdict, draws_of};
 use tink_cli_files::{added_file, converted_file, new_file, rotated_file};
 use tink_io::{Kind, TinkError};
 use tink_keyset_io::key_files::Format;
@@ -137,8 +137,8 @@ fn is_made(alloc: Global, made: &Made, want: Result<&[u8], Kind>) -> bool {
     }
 }
 
-pub fn files_of_keys_are_made_to_the_byte(alloc: Global, told: &mut Told) {
+pub fn files_of_keys_are_made_to_the_byte(alloc: Global, verdict: &mut Verdict) {
     for row in ROWS {
-        told.expect(Ok(is_made(alloc, &row.1, row.2)), Ok(true), row.0);
+        verdict.expect(Ok(is_made(alloc, &row.1, row.2)), Ok(true), row.0);
     }
 }

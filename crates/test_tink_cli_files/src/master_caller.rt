@@ -1,14 +1,14 @@
 //! The caller under a master that the README of `tink_cli_files` shows.
 
-ghost use Rattle.tink_io.specs.Told.{Answers};
+ghost use Rattle.tink_io.specs.Answering.{Answers};
 ghost use Rattle.tink_keyset_io.specs.declared.key_files.formats.Format.TheVariants.{Json};
 ghost use Rattle.tink_cli_files.specs.Masters.{IsMaster, MasterKeys};
 ghost use Rattle.tink_cli_files.specs.Wrapping.{wrapped_file};
 
 use crate::saving_tests::{KEYS, MASTER, master_of};
 use std::alloc::Global;
-use test_util::{Ask, Told, asked, draws_of};
-use tink_cli_files::under_master::{Master, unwrapped, wrapped};
+use test_util::{Ask, Verdict, ask_made, draws_of};
+use tink_cli_files::under_master::{Master, unwrap_file, wrap_file};
 use tink_io::{Draws, TinkError};
 use tink_keyset_io::key_files::Format;
 use tink_proto::Bytes;
@@ -24,12 +24,12 @@ fn wrapped_as_json(
     ensures { (m : MasterKeys) → IsMaster m master.now
         → Answers result (wrapped_file m keys.items aad.now Json draws.old) }
 {
-    wrapped(alloc, master, keys, aad, Format::Json, draws)
+    wrap_file(alloc, master, keys, aad, Format::Json, draws)
 }
 
 // Whether a file is JSON and unwrapped to the keys.
 fn is_unwrapped(alloc: Global, master: &Master, file: &[u8]) -> Result<bool, TinkError> {
-    match unwrapped(alloc, master, file, b"its name", Format::Binary) {
+    match unwrap_file(alloc, master, file, b"its name", Format::Binary) {
         Ok(keys) => Ok(keys.as_slice() == KEYS && Format::of_file(file) == Format::Json),
         Err(e) => Err(e),
     }
@@ -49,7 +49,7 @@ impl Ask<Master> for Wraps {
     }
 }
 
-pub fn the_caller_does_what_it_says(alloc: Global, told: &mut Told) {
-    let is_wrapped = asked(alloc, master_of(alloc, MASTER), &Wraps);
-    told.expect(is_wrapped, Ok(true), "a file of keys is wrapped");
+pub fn the_caller_does_what_it_says(alloc: Global, verdict: &mut Verdict) {
+    let is_wrapped = ask_made(alloc, master_of(alloc, MASTER), &Wraps);
+    verdict.expect(is_wrapped, Ok(true), "a file of keys is wrapped");
 }

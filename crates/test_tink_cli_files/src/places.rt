@@ -3,7 +3,7 @@
 ghost use Rattle.std.specs.Prelude.{◌≡◌, true};
 
 use std::alloc::Global;
-use test_util::{Told, shows};
+use test_util::{Verdict, shows};
 use tink_io::{Kind, MemPlace, TinkError};
 
 // What stands under the name before.
@@ -11,7 +11,7 @@ const BEFORE: &[u8] = b"before";
 
 /// A call into a place.
 pub trait Call {
-    fn done(&self, alloc: Global, place: &mut MemPlace) -> Result<(), TinkError>
+    fn perform(&self, alloc: Global, place: &mut MemPlace) -> Result<(), TinkError>
         requires { place.old.has_draft ≡ true };
 }
 
@@ -34,7 +34,7 @@ fn is_answered<C: Call>(
     if !place.has_draft {
         return false;
     }
-    match (call.done(alloc, place), want) {
+    match (call.perform(alloc, place), want) {
         (Ok(()), Ok(file)) => shows(place, file),
         (Err(e), Err(kind)) => e.kind == kind && shows(place, BEFORE),
         _ => false,
@@ -42,12 +42,12 @@ fn is_answered<C: Call>(
 }
 
 /// Takes what each call leaves.
-pub fn walk<C: Call>(alloc: Global, told: &mut Told, rows: &[Row<C>]) {
+pub fn walk<C: Call>(alloc: Global, verdict: &mut Verdict, rows: &[Row<C>]) {
     for row in rows {
         let is_answered = match place_of(alloc, row.2) {
             Some(mut place) => is_answered(alloc, &row.1, &mut place, row.3),
             None => false,
         };
-        told.expect(Ok(is_answered), Ok(true), row.0);
+        verdict.expect(Ok(is_answered), Ok(true), row.0);
     }
 }

@@ -4,7 +4,7 @@ ghost use Rattle.std.specs.Prelude.{◌≡◌, true};
 
 use crate::places::{Call, Row, place_of, walk};
 use std::alloc::Global;
-use test_util::{Told, draws_of, kind_of};
+use test_util::{Verdict, draws_of, kind_of};
 use tink_cli_files::under_master::{Master, load_master};
 use tink_cli_files::{edit_keys, new_keys, rotate_keys, unwrap_keys, wrap_keys};
 use tink_io::{Draws, Kind, MemPlace, TinkError};
@@ -173,17 +173,19 @@ const UNDER_MASTERS: &[Row<AskedUnder>] = &[
 
 // New files have the wire format.
 impl Call for Asked {
-    fn done(&self, alloc: Global, place: &mut MemPlace) -> Result<(), TinkError> {
+    fn perform(&self, alloc: Global, place: &mut MemPlace) -> Result<(), TinkError> {
         match *self {
-            Asked::New(template, draws) => made(alloc, template, draws, place),
-            Asked::Rotate(file, template, draws) => rotated(alloc, file, template, draws, place),
-            Asked::Change(file, edit, id) => changed(alloc, file, edit, id, place),
+            Asked::New(template, draws) => save_new_keys(alloc, template, draws, place),
+            Asked::Rotate(file, template, draws) => save_rotated(
+                alloc, file, template, draws, place,
+            ),
+            Asked::Change(file, edit, id) => save_edited(alloc, file, edit, id, place),
         }
     }
 }
 
 impl Call for AskedUnder {
-    fn done(&self, alloc: Global, place: &mut MemPlace) -> Result<(), TinkError> {
+    fn perform(&self, alloc: Global, place: &mut MemPlace) -> Result<(), TinkError> {
         done_by(alloc, master_of(alloc, self.0), &self.1, place)
     }
 }
@@ -218,14 +220,19 @@ impl DoneBy<Master> for Under {
     }
 }
 
-fn made(alloc: Global, template: &str, draws: &[u8], place: &mut MemPlace) -> Result<(), TinkError>
+fn save_new_keys(
+    alloc: Global,
+    template: &str,
+    draws: &[u8],
+    place: &mut MemPlace,
+) -> Result<(), TinkError>
     requires { place.old.has_draft ≡ true }
 {
     let mut draws = draws_of(alloc, draws)?;
     new_keys(alloc, template, Format::Binary, &mut draws, place)
 }
 
-fn rotated(
+fn save_rotated(
     alloc: Global,
     file: &[u8],
     template: &str,
@@ -239,7 +246,7 @@ fn rotated(
     rotate_keys(alloc, file, template, &mut draws, place)
 }
 
-fn changed(
+fn save_edited(
     alloc: Global,
     file: &[u8],
     edit: Edit,
@@ -271,27 +278,27 @@ fn wrap(
     wrap_keys(alloc, master, keys, aad, Format::Binary, &mut draws, place)
 }
 
-pub fn files_of_keys_are_saved_whole_or_not_at_all(alloc: Global, told: &mut Told) {
-    walk(alloc, told, ROWS);
+pub fn files_of_keys_are_saved_whole_or_not_at_all(alloc: Global, verdict: &mut Verdict) {
+    walk(alloc, verdict, ROWS);
 }
 
-pub fn files_under_masters_are_saved_whole_or_not_at_all(alloc: Global, told: &mut Told) {
-    walk(alloc, told, UNDER_MASTERS);
+pub fn files_under_masters_are_saved_whole_or_not_at_all(alloc: Global, verdict: &mut Verdict) {
+    walk(alloc, verdict, UNDER_MASTERS);
 }
 
-pub fn a_master_has_aeads_alone(alloc: Global, told: &mut Told) {
+pub fn a_master_has_aeads_alone(alloc: Global, verdict: &mut Verdict) {
     let kind = match place_of(alloc, 999) {
         Some(mut place) => refusal_of_master(alloc, &mut place),
         None => None,
     };
     let refused = kind == Some(Kind::WrongPrimitive);
-    told.expect(Ok(refused), Ok(true), "a master of streams");
+    verdict.expect(Ok(refused), Ok(true), "a master of streams");
 }
 
 // By which kind a new file of a key of streams is refused as a master.
 fn refusal_of_master(alloc: Global, place: &mut MemPlace) -> Option<Kind> {
     let draws = b"0123456789abcdefMMMM";
-    if !place.has_draft || made(alloc, "AES128_GCM_HKDF_4KB", draws, place).is_err() {
+    if !place.has_draft || save_new_keys(alloc, "AES128_GCM_HKDF_4KB", draws, place).is_err() {
         return None;
     }
     match place.shown.take() {

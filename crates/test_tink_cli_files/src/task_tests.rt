@@ -6,7 +6,7 @@ use crate::places::{Call, Row, walk};
 use std::alloc::Global;
 use std::marker::Brand;
 use std::sync::ledger::{Blank, Ledger};
-use test_util::{CTR_35, GCM_41, Told, draws_of, sink_of};
+use test_util::{CTR_35, GCM_41, Verdict, draws_of, sink_of};
 use tink_cli_files::{Task, range_to, save_task, write_task};
 use tink_io::{Draws, Kind, MemPlace, Place, Source, SureSink, SureSource, TinkError};
 use tink_range::{MemAt, Steps};
@@ -178,7 +178,7 @@ fn input_of(alloc: Global, what: &What, left: usize, place: usize) -> Result<Vec
 }
 
 // Without what it reports.
-fn done<T: Copy>(answer: Result<T, TinkError>) -> Result<(), TinkError> {
+fn without_report<T: Copy>(answer: Result<T, TinkError>) -> Result<(), TinkError> {
     match answer {
         Ok(_) => Ok(()),
         Err(e) => Err(e),
@@ -190,7 +190,7 @@ const DRAWS: &[u8] =
     b"\x00\x01\x02\x03\x04\x05\x06\x07\x08\x09\x0a\x0b\x0c\x0d\x0e\x0f\x10\x11\x12\x13\x14\x15\x16";
 
 // Encrypts a source to a file that is shown whole. By a refusal what stands there stays.
-fn encrypted<S: Source, P: Place>(
+fn encrypt_to<S: Source, P: Place>(
     alloc: Global,
     keyset: &[u8],
     aad: &[u8],
@@ -213,17 +213,17 @@ fn encrypted<S: Source, P: Place>(
 }
 
 impl Call for Asked {
-    fn done(&self, alloc: Global, place: &mut MemPlace) -> Result<(), TinkError> {
+    fn perform(&self, alloc: Global, place: &mut MemPlace) -> Result<(), TinkError> {
         let input = input_of(alloc, &self.0, self.1, self.2)?;
         match self.0 {
-            What::Range => ranged(alloc, input, place),
-            _ => streamed(alloc, &self.0, input, place),
+            What::Range => save_range(alloc, input, place),
+            _ => save_stream(alloc, &self.0, input, place),
         }
     }
 }
 
 // A text, a stream or a token into a place.
-fn streamed(
+fn save_stream(
     alloc: Global,
     what: &What,
     input: Vec<u8>,
@@ -233,8 +233,8 @@ fn streamed(
 {
     let mut draws = draws_of(alloc, DRAWS)?;
     let mut source = SureSource::new(input);
-    done(match *what {
-        What::Seal => encrypted(alloc, CTR_35, MAY, &mut draws, &mut source, place),
+    without_report(match *what {
+        What::Seal => encrypt_to(alloc, CTR_35, MAY, &mut draws, &mut source, place),
         _ => {
             let (task, keys, aad) = task_of(what);
             save_task(alloc, task, keys, aad, &mut draws, &mut source, place)
@@ -253,11 +253,11 @@ fn task_of(what: &What) -> (Task<'static>, &'static [u8], &'static [u8]) {
 }
 
 // A range of a stream into a place.
-fn ranged(alloc: Global, input: Vec<u8>, place: &mut MemPlace) -> Result<(), TinkError>
+fn save_range(alloc: Global, input: Vec<u8>, place: &mut MemPlace) -> Result<(), TinkError>
     requires { place.old.has_draft ≡ true }
 {
     let mut object = MemAt::new(input, 0, Vec::new(alloc));
-    done(range_of::<Brand>(alloc, &mut object, place, Blank::new(1)))
+    without_report(range_of::<Brand>(alloc, &mut object, place, Blank::new(1)))
 }
 
 // The first nine bytes of the text, by a ledger of steps.
@@ -276,8 +276,8 @@ fn range_of<L: Ledger>(
     range_to(alloc, CTR_35, MAY, object, 0, 9, place, &mut steps)
 }
 
-pub fn what_is_made_stands_whole_or_not_at_all(alloc: Global, told: &mut Told) {
-    walk(alloc, told, ROWS);
+pub fn what_is_made_stands_whole_or_not_at_all(alloc: Global, verdict: &mut Verdict) {
+    walk(alloc, verdict, ROWS);
 }
 
 // Whether an open into a sink reports its segments and bytes.
@@ -301,6 +301,6 @@ fn opens(alloc: Global) -> Result<bool, TinkError> {
     }
 }
 
-pub fn a_text_goes_into_a_sink_as_it_comes(alloc: Global, told: &mut Told) {
-    told.expect(opens(alloc), Ok(true), "a text into a sink");
+pub fn a_text_goes_into_a_sink_as_it_comes(alloc: Global, verdict: &mut Verdict) {
+    verdict.expect(opens(alloc), Ok(true), "a text into a sink");
 }

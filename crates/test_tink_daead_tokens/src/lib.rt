@@ -5,13 +5,13 @@ mod daead;
 mod tokens;
 
 use std::alloc::Global;
-use test_util::Told;
+use test_util::Verdict;
 
 /// The answers of all rows.
-pub fn rows(alloc: Global) -> Told {
-    let mut told = Told::new();
-    daead::keyset_tests::keys_and_keysets_are_as_the_rows_say(alloc, &mut told);
-    daead::siv_tests::aes_siv_is_as_the_rows_say(alloc, &mut told);
-    tokens::rows::tokens_are_as_the_rows_say(alloc, &mut told);
-    told
+pub fn rows(alloc: Global) -> Verdict {
+    let mut verdict = Verdict::new();
+    daead::keyset_tests::keys_and_keysets_are_as_the_rows_say(alloc, &mut verdict);
+    daead::siv_tests::aes_siv_is_as_the_rows_say(alloc, &mut verdict);
+    tokens::rows::tokens_are_as_the_rows_say(alloc, &mut verdict);
+    verdict
 }

@@ -9,7 +9,7 @@ ghost use Rattle.tink_set_builder.specs.Given.{given_each};
 ghost use Rattle.tink_sets.specs.Entries.{entry_of};
 
 use std::alloc::Global;
-use test_util::{Answer, TestKinds, TestManager, Told, URL, data_of, handle_of, registry_of};
+use test_util::{Answer, TestKinds, TestManager, URL, Verdict, data_of, handle_of, registry_of};
 use tink_io::{Kind, TinkError};
 use tink_keysets::keyset::Handle;
 use tink_primitives::Primitive;
@@ -103,7 +103,7 @@ enum By {
     Manager(bool),
 }
 
-fn built(alloc: Global, h: &Handle, by: &By) -> Result<PrimitiveSet<TestKinds>, TinkError> {
+fn build_set_by(alloc: Global, h: &Handle, by: &By) -> Result<PrimitiveSet<TestKinds>, TinkError> {
     match by {
         By::Registry(any_length) => match registry_of(alloc, manager(*any_length)) {
             Ok(registry) => h.primitives(alloc, &registry),
@@ -146,14 +146,14 @@ fn holds(set: Result<PrimitiveSet<TestKinds>, TinkError>, what: &Has) -> Result<
     }
 }
 
-fn answered(
+fn answer_row(
     alloc: Global,
     keys: Result<Handle, TinkError>,
     by: &By,
     what: &Has,
 ) -> Result<bool, TinkError> {
     match keys {
-        Ok(h) => holds(built(alloc, &h, by), what),
+        Ok(h) => holds(build_set_by(alloc, &h, by), what),
         Err(e) => Err(e),
     }
 }
@@ -255,9 +255,9 @@ const ROWS: &[(&str, u32, &[KeyRow], By, Has, Answer)] = &[
     ),
 ];
 
-pub fn keysets_give_sets(alloc: Global, told: &mut Told) {
+pub fn keysets_give_sets(alloc: Global, verdict: &mut Verdict) {
     for (row, primary, keys, by, what, want) in ROWS {
-        let got = answered(alloc, handle(alloc, *primary, keys), by, what);
-        told.expect(got, *want, row);
+        let got = answer_row(alloc, handle(alloc, *primary, keys), by, what);
+        verdict.expect(got, *want, row);
     }
 }

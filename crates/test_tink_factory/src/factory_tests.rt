@@ -1,16 +1,16 @@
 //! Which entry of a set answers, and which handles give a set of one sort.
 
 ghost use Rattle.std.specs.Prelude.{◌≡◌, true, is_some, IfOk, Err};
-ghost use Rattle.tink_asking.specs.Accepting.{accepted};
+ghost use Rattle.tink_sets.specs.Accepting.{accepted};
 ghost use Rattle.tink_io.specs.declared.error.Kind.TheVariants.{DecryptFailed, MacMismatch};
-ghost use Rattle.tink_io.specs.Told.{Answers};
+ghost use Rattle.tink_io.specs.Answering.{Answers};
 ghost use Rattle.tink_sets.specs.Groups.{group_of};
 ghost use Rattle.test_tink_factory.specs.TestKeys as test_keys;
 
 use crate::building_tests::{KeyRow, handle, manager};
 use std::alloc::Global;
 use test_util::{
-    Answer, TestAead, TestKinds, TestManager, Told, URL, enabled_key, made, registry_of,
+    Answer, TestAead, TestKinds, TestManager, URL, Verdict, enabled_key, registry_of, succeeds,
 };
 use tink_io::{Kind, TinkError};
 use tink_keysets::factory::{Question, ask_behind_prefix, ask_entries, typed_primitives};
@@ -215,16 +215,16 @@ const INPUTS: &[(&str, Asked, &[u8], u32, Answer)] = &[
     ),
 ];
 
-fn ask_all(told: &mut Told, alloc: Global, set: &TypedPrimitiveSet<TestAead>) {
+fn ask_all(verdict: &mut Verdict, alloc: Global, set: &TypedPrimitiveSet<TestAead>) {
     for (row, asked, input, id, want) in INPUTS {
-        told.expect(answers(alloc, set, asked, input, *id), *want, row);
+        verdict.expect(answers(alloc, set, asked, input, *id), *want, row);
     }
 }
 
-pub fn entries_are_asked_in_order(alloc: Global, told: &mut Told) {
+pub fn entries_are_asked_in_order(alloc: Global, verdict: &mut Verdict) {
     match set_of_six(alloc) {
-        Ok(set) => ask_all(told, alloc, &set),
-        Err(e) => told.expect(Err(e), Ok(true), "a set of six"),
+        Ok(set) => ask_all(verdict, alloc, &set),
+        Err(e) => verdict.expect(Err(e), Ok(true), "a set of six"),
     }
 }
 
@@ -256,7 +256,7 @@ fn gives_set_by(
     of_macs: bool,
 ) -> Result<bool, TinkError> {
     if of_macs {
-        made(macs_of(alloc, h, registry))
+        succeeds(macs_of(alloc, h, registry))
     } else {
         are_aeads(
             alloc,
@@ -320,8 +320,8 @@ const HANDLES: &[(&str, &[KeyRow], bool, Answer)] = &[
     ),
 ];
 
-pub fn a_handle_gives_a_set_of_one_sort(alloc: Global, told: &mut Told) {
+pub fn a_handle_gives_a_set_of_one_sort(alloc: Global, verdict: &mut Verdict) {
     for (row, keys, of_macs, want) in HANDLES {
-        told.expect(gives_set(alloc, keys, *of_macs), *want, row);
+        verdict.expect(gives_set(alloc, keys, *of_macs), *want, row);
     }
 }

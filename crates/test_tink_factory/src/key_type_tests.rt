@@ -2,7 +2,7 @@
 
 use crate::test_keys::TestKeys;
 use std::alloc::Global;
-use test_util::{Answer, TestKinds, Told, draws_of, gives, made};
+use test_util::{Answer, TestKinds, Verdict, draws_of, gives, succeeds};
 use tink_io::{Draws, Kind, TinkError};
 use tink_key_manager::{SymmetricKeyManager, add_template, hash_type_of, new_template};
 use tink_primitives::{Aead, Primitive};
@@ -66,7 +66,7 @@ enum Asked {
     Hashes,
 }
 
-fn answered(
+fn answer_row(
     alloc: Global,
     manager: &SymmetricKeyManager<TestKeys>,
     asked: &Asked,
@@ -81,7 +81,7 @@ fn answered(
         Asked::Seals(key, want) => {
             gives(sealed_by(alloc, manager.primitive(alloc, key), draws), want)
         }
-        Asked::HasPublic => made(manager.public_key_data(alloc, &[])),
+        Asked::HasPublic => succeeds(manager.public_key_data(alloc, &[])),
         Asked::Left(n) => Ok(draws.left() == *n),
         Asked::Says => Ok(says(manager)),
         Asked::Templates => are_named(alloc, &mut Vec::new(alloc)),
@@ -169,17 +169,17 @@ const ROWS: &[(&str, Asked, Answer)] = &[
     ("the numbers of hashes", Asked::Hashes, Ok(true)),
 ];
 
-fn ask_all(told: &mut Told, alloc: Global, draws: &mut Draws) {
+fn ask_all(verdict: &mut Verdict, alloc: Global, draws: &mut Draws) {
     let manager = SymmetricKeyManager::new();
     for (row, asked, want) in ROWS {
-        told.expect(answered(alloc, &manager, asked, draws), *want, row);
+        verdict.expect(answer_row(alloc, &manager, asked, draws), *want, row);
     }
 }
 
-pub fn a_manager_makes_and_builds_keys(alloc: Global, told: &mut Told) {
+pub fn a_manager_makes_and_builds_keys(alloc: Global, verdict: &mut Verdict) {
     match draws_of(alloc, DRAWS) {
-        Ok(mut draws) => ask_all(told, alloc, &mut draws),
-        Err(e) => told.expect(Err(e), Ok(true), "the draws"),
+        Ok(mut draws) => ask_all(verdict, alloc, &mut draws),
+        Err(e) => verdict.expect(Err(e), Ok(true), "the draws"),
     }
 }
 

@@ -8,14 +8,14 @@ mod key_type_tests;
 mod test_keys;
 
 use std::alloc::Global;
-use test_util::Told;
+use test_util::Verdict;
 
 /// What all rows tell.
-pub fn rows(alloc: Global) -> Told {
-    let mut told = Told::new();
-    factory_tests::entries_are_asked_in_order(alloc, &mut told);
-    factory_tests::a_handle_gives_a_set_of_one_sort(alloc, &mut told);
-    building_tests::keysets_give_sets(alloc, &mut told);
-    key_type_tests::a_manager_makes_and_builds_keys(alloc, &mut told);
-    told
+pub fn rows(alloc: Global) -> Verdict {
+    let mut verdict = Verdict::new();
+    factory_tests::entries_are_asked_in_order(alloc, &mut verdict);
+    factory_tests::a_handle_gives_a_set_of_one_sort(alloc, &mut verdict);
+    building_tests::keysets_give_sets(alloc, &mut verdict);
+    key_type_tests::a_manager_makes_and_builds_keys(alloc, &mut verdict);
+    verdict
 }

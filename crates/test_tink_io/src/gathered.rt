@@ -36,7 +36,7 @@ fn write_pieces<K: Sink>(sink: &mut K, text: &[u8], lengths: &[usize]) -> Result
 }
 
 // How many bytes a sink has got once pieces are written, and once they are flushed, with whether each succeeded.
-type Told = (usize, bool, usize, bool);
+type Gathering = (usize, bool, usize, bool);
 
 // What is told of pieces of these lengths, and whether the bytes are the text's.
 fn gather(
@@ -44,7 +44,7 @@ fn gather(
     waiting: &mut Vec<u8>,
     text: &[u8],
     lengths: &[usize],
-) -> (Told, bool) {
+) -> (Gathering, bool) {
     let mut gathered = Gathered::new(sink, waiting);
     let written = write_pieces(&mut gathered, text, lengths).is_ok();
     let got = gathered.sink.bytes().len();
@@ -57,13 +57,13 @@ fn gather(
 }
 
 // The same of a sink of so many bytes a call whose call of a number fails.
-fn told(
+fn gather_into(
     alloc: Global,
     text: &[u8],
     lengths: &[usize],
     piece: usize,
     fails: u32,
-) -> Result<(Told, bool), TinkError> {
+) -> Result<(Gathering, bool), TinkError> {
     let mut waiting = room(alloc)?;
     let mut sink = sink_of(alloc, piece, fails, text.len())?;
     Ok(gather(&mut sink, &mut waiting, text, lengths))
@@ -79,7 +79,7 @@ fn pattern(alloc: Global) -> Result<Vec<u8>, TinkError> {
 }
 
 // The lengths of pieces, how many bytes a call of the sink takes (0: all), which call fails, and what is told.
-const ROWS: &[(&[usize], usize, u32, Told)] = &[
+const ROWS: &[(&[usize], usize, u32, Gathering)] = &[
     (&[], 0, 1, (0, true, 0, true)),
     (&[1], 0, 1, (0, true, 0, false)),
     (&[1], 0, 2, (0, true, 1, true)),
@@ -103,7 +103,7 @@ fn wrong_row(alloc: Global) -> Result<Option<usize>, TinkError> {
     let text = pattern(alloc)?;
     for i in 0..ROWS.len() {
         let (lengths, piece, fails, want) = &ROWS[i];
-        if told(alloc, &text, lengths, *piece, *fails)? != (*want, true) {
+        if gather_into(alloc, &text, lengths, *piece, *fails)? != (*want, true) {
             return Ok(Some(i));
         }
     }

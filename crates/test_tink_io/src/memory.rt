@@ -18,7 +18,7 @@ type Write<'a> = (&'a [u8], Result<usize, Failed>);
 type Take = (usize, Result<(), TinkError>, [u8; 2], usize);
 
 // The number of the first call of a row that is not as the row says, and whether what else the row says is so.
-type Told = Result<(Option<usize>, bool), TinkError>;
+type RowResult = Result<(Option<usize>, bool), TinkError>;
 
 // A read to the first `len` of four nines: its answer, and what stands in the four.
 fn read_to(source: &mut impl Source, len: usize) -> (Result<usize, Failed>, [u8; 4]) {
@@ -108,7 +108,7 @@ fn pieces_taken(mut sink: MemSink, writes: &[Write<'_>]) -> (Option<usize>, bool
 }
 
 // The same of a sink that has no room at first, and then room for three: its bytes are "wxy".
-fn sure_taken(alloc: Global, writes: &[Write<'_>]) -> Told {
+fn sure_taken(alloc: Global, writes: &[Write<'_>]) -> RowResult {
     let mut sink = SureSink::new(alloc);
     let refused = sink.write(b"x") == Err(Failed);
     sink.reserve(alloc, 3)?;
@@ -121,7 +121,7 @@ fn sure_taken(alloc: Global, writes: &[Write<'_>]) -> Told {
 }
 
 // The first wrong write to a sink that is lent, and whether its bytes are "a" then.
-fn lent_taken(alloc: Global, writes: &[Write<'_>]) -> Told {
+fn lent_taken(alloc: Global, writes: &[Write<'_>]) -> RowResult {
     let mut sink = SureSink::new(alloc);
     sink.reserve(alloc, 2)?;
     let wrong = wrong_write(&mut Lent(&mut sink), writes);
@@ -174,7 +174,7 @@ fn first_wrong_read(alloc: Global, of: Of, reads: &[Read]) -> Result<Option<usiz
     })
 }
 
-fn told(alloc: Global, asked: &Asked) -> Told {
+fn answer_row(alloc: Global, asked: &Asked) -> RowResult {
     match asked {
         Asked::Read(of, reads) => Ok((first_wrong_read(alloc, *of, reads)?, true)),
         Asked::Take(takes) => {
@@ -351,6 +351,6 @@ const ROWS: &[(&str, Asked)] = &[
 #[test]
 fn sources_sinks_and_draws(rt: HostRuntime) {
     for (row, asked) in ROWS {
-        expect(&rt, told(rt.alloc(), asked), Ok((None, true)), row);
+        expect(&rt, answer_row(rt.alloc(), asked), Ok((None, true)), row);
     }
 }

@@ -30,7 +30,7 @@ fn shows(place: &MemPlace, text: &[u8]) -> bool {
 }
 
 // A text in place of what stands under the name. By a refusal that stays.
-fn replaced<P: Place>(place: &mut P, text: &[u8]) -> Result<(), TinkError>
+fn save_text<P: Place>(place: &mut P, text: &[u8]) -> Result<(), TinkError>
     requires { P.has_draft place.old ≡ true }
     ensures { OnErr result (P.shown place.new ≡ P.shown place.old) }
 {
@@ -43,7 +43,7 @@ fn saves(alloc: Global, room: usize, replaces: bool, can_show: bool) -> Option<b
     if !place.has_draft {
         return None;
     }
-    match replaced(&mut place, TEXT) {
+    match save_text(&mut place, TEXT) {
         Ok(()) if shows(&place, TEXT) => Some(true),
         Err(e) if e.kind == Kind::WriteFault && shows(&place, BEFORE) => Some(false),
         _ => None,

@@ -425,12 +425,12 @@ fn spells(words: &[Vec<u8>], want: &Want) -> bool {
 
 // Whether words are wrong for this.
 fn is_why(why: &Why<'_>, text: &str, name: &str, word: &str) -> bool {
-    let (got_text, got_name, got_word) = told(why);
+    let (got_text, got_name, got_word) = texts_of(why);
     got_text == text && got_name == name && got_word == word.as_bytes()
 }
 
 // Why words are wrong: a word for it, the option or the word beside the options, and the word of the line.
-fn told<'w>(why: &Why<'w>) -> (&'static str, &'static str, &'w [u8]) {
+fn texts_of<'w>(why: &Why<'w>) -> (&'static str, &'static str, &'w [u8]) {
     match why {
         Why::NoCommand => ("no command", "", "".as_bytes()),
         Why::UnknownCommand(word) => ("unknown command", "", word.bytes()),

@@ -6,7 +6,7 @@ ghost use Rattle.wire_format.specs.Message.{decoded};
 
 use crate::stored::{Asked, KEYSET, Reading, Writing};
 use std::alloc::Global;
-use test_util::Told;
+use test_util::Verdict;
 use tink_io::{Kind, Source, SureSource, TinkError};
 use tink_keyset_io::BinaryReader;
 use tink_keysets::keyset::Reader;
@@ -101,9 +101,12 @@ fn gives_keyset(alloc: Global, zeros: usize, bytes: &[u8]) -> Result<bool, TinkE
     }
 }
 
-pub fn a_source_gives_its_keyset_and_no_more_than_67108864_bytes(alloc: Global, told: &mut Told) {
+pub fn a_source_gives_its_keyset_and_no_more_than_67108864_bytes(
+    alloc: Global,
+    verdict: &mut Verdict,
+) {
     let keyset = gives_keyset(alloc, 0, KEYSET);
-    told.expect(keyset, Ok(true), "the keyset");
+    verdict.expect(keyset, Ok(true), "the keyset");
     let more = gives_keyset(alloc, 67_108_865, b"");
-    told.expect(more, Err(Kind::KeysetTooLong), "a byte more");
+    verdict.expect(more, Err(Kind::KeysetTooLong), "a byte more");
 }

@@ -2,11 +2,11 @@
 
 ghost use Rattle.std.specs.Prelude.{[]};
 ghost use Rattle.tink_core_subtle.specs.Hashes.{derived, hash_named};
-ghost use Rattle.tink_io.specs.Told.{Answers};
+ghost use Rattle.tink_io.specs.Answering.{Answers};
 ghost use Rattle.tink_proto.specs.declared.enums.HashType.TheVariants as types;
 
 use std::alloc::Global;
-use test_util::{Answer, Told, draws_of, gives};
+use test_util::{Answer, Verdict, draws_of, gives};
 use tink_core::subtle::{
     compute_hash, compute_hkdf, constant_time_compare, get_hash_digest_size, get_hash_func, random,
 };
@@ -60,7 +60,7 @@ fn is_number(drawn: Result<u32, TinkError>, want: u32) -> Result<bool, TinkError
     }
 }
 
-fn answered(alloc: Global, draws: &mut Draws, asked: &Asked) -> Result<bool, TinkError> {
+fn answer_row(alloc: Global, draws: &mut Draws, asked: &Asked) -> Result<bool, TinkError> {
     match asked {
         Asked::Size(hash, want) => is_size(get_hash_digest_size(*hash), *want),
         Asked::Digest(hash, want) => is_digest_of_abc(alloc, *hash, want),
@@ -184,13 +184,13 @@ const ROWS: &[(&str, Asked, Answer)] = &[
     ("the draws that are left", Asked::Left(1), Ok(true)),
 ];
 
-pub fn calls_answer_as_the_rows_say(alloc: Global, told: &mut Told) {
+pub fn calls_answer_as_the_rows_say(alloc: Global, verdict: &mut Verdict) {
     match draws_of(alloc, b"\x01\x02\x03\x04\x05\x06\x07") {
         Ok(mut draws) => {
             for (row, asked, want) in ROWS {
-                told.expect(answered(alloc, &mut draws, asked), *want, row);
+                verdict.expect(answer_row(alloc, &mut draws, asked), *want, row);
             }
         }
-        Err(e) => told.expect(Err(e), Ok(true), "draws"),
+        Err(e) => verdict.expect(Err(e), Ok(true), "draws"),
     }
 }

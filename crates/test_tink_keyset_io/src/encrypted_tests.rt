@@ -8,7 +8,7 @@ use crate::ends::Binding;
 use crate::plain_tests::{NOTHING, PLAIN, SECRETS};
 use crate::stored::{put, put_encrypted};
 use std::alloc::Global;
-use test_util::{Answer, TestAead, Told, bytes_of, draws_of, gives, made};
+use test_util::{Answer, TestAead, Verdict, bytes_of, draws_of, gives, succeeds};
 use tink_core::keyset::insecure::{self, decode, new_handle};
 use tink_core::keyset::{Handle, MemReaderWriter, Reader, Writer};
 use tink_io::{Draws, Kind, TinkError};
@@ -164,22 +164,22 @@ fn has_info(
 }
 
 /// What an end answers.
-pub fn answered<E: Reader + Writer>(
+pub fn answer_row<E: Reader + Writer>(
     alloc: Global,
     end: &mut E,
     step: &Step,
     draws: &mut Draws,
 ) -> Result<bool, TinkError> {
     match step {
-        Step::Write(how, keys) => made(write_of(alloc, end, how, handle(alloc, keys), draws)),
+        Step::Write(how, keys) => succeeds(write_of(alloc, end, how, handle(alloc, keys), draws)),
         Step::Read(how, keys) => gives(bytes_by(alloc, read(alloc, end, how)), keys),
         Step::Info(how, want) => has_info(alloc, read(alloc, end, how), want),
         Step::Again(from, to) => {
             let h = read(alloc, end, from);
-            made(write_of(alloc, end, to, h, draws))
+            succeeds(write_of(alloc, end, to, h, draws))
         }
-        Step::Put(bytes) => made(put(alloc, end, decode(alloc, bytes))),
-        Step::PutEncrypted(bytes) => made(put_encrypted(alloc, end, bytes)),
+        Step::Put(bytes) => succeeds(put(alloc, end, decode(alloc, bytes))),
+        Step::PutEncrypted(bytes) => succeeds(put_encrypted(alloc, end, bytes)),
         Step::Law(other) => {
             let read = by_the_law(alloc, handle(alloc, TWO), other, draws);
             gives(bytes_by(alloc, read), TWO)
@@ -351,13 +351,13 @@ const NO_KEYSETS: &[Row] = &[
     ),
 ];
 
-fn walk(told: &mut Told, alloc: Global, draws: &mut Draws, rows: &[Row]) {
+fn walk(verdict: &mut Verdict, alloc: Global, draws: &mut Draws, rows: &[Row]) {
     let mut memory = MemReaderWriter::default();
     for (row, step, want, kept, left) in rows {
-        let got = answered(alloc, &mut memory, step, draws);
-        told.expect(got, *want, row);
+        let got = answer_row(alloc, &mut memory, step, draws);
+        verdict.expect(got, *want, row);
         let is_left = draws.left() == *left;
-        told.expect(keeps(alloc, &memory, kept, is_left), Ok(true), row);
+        verdict.expect(keeps(alloc, &memory, kept, is_left), Ok(true), row);
     }
 }
 
@@ -372,13 +372,13 @@ const TABLES: &[&[Row]] = &[
     SECRETS,
 ];
 
-pub fn keysets_go_through_memory(alloc: Global, told: &mut Told) {
+pub fn keysets_go_through_memory(alloc: Global, verdict: &mut Verdict) {
     match draws_of(alloc, b"draw") {
         Ok(mut draws) => {
             for rows in TABLES {
-                walk(told, alloc, &mut draws, rows);
+                walk(verdict, alloc, &mut draws, rows);
             }
         }
-        Err(e) => told.expect(Err(e), Ok(true), "draws"),
+        Err(e) => verdict.expect(Err(e), Ok(true), "draws"),
     }
 }

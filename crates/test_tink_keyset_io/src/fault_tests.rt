@@ -1,9 +1,9 @@
 //! Refusals of masters, readers and writers.
 
-use crate::encrypted_tests::{How, PUBLIC, Step, TWO, answered};
+use crate::encrypted_tests::{How, PUBLIC, Step, TWO, answer_row};
 use crate::ends::Failing;
 use std::alloc::Global;
-use test_util::{Answer, Told, draws_of};
+use test_util::{Answer, Verdict, draws_of};
 use tink_io::{Draws, Kind, TinkError};
 
 const READ: Answer = Err(Kind::ReadFault);
@@ -61,7 +61,7 @@ fn with_faults(
     faults: u64,
     left: usize,
 ) -> Result<bool, TinkError> {
-    let got = answered(alloc, end, step, draws);
+    let got = answer_row(alloc, end, step, draws);
     if end.faults == faults && draws.left() == left {
         got
     } else {
@@ -69,15 +69,15 @@ fn with_faults(
     }
 }
 
-pub fn faults_come_through(alloc: Global, told: &mut Told) {
+pub fn faults_come_through(alloc: Global, verdict: &mut Verdict) {
     let mut end = Failing { faults: 0 };
     match draws_of(alloc, b"dr") {
         Ok(mut draws) => {
             for (row, step, want, faults, left) in ROWS {
                 let got = with_faults(alloc, &mut end, step, &mut draws, *faults, *left);
-                told.expect(got, *want, row);
+                verdict.expect(got, *want, row);
             }
         }
-        Err(e) => told.expect(Err(e), Ok(true), "draws"),
+        Err(e) => verdict.expect(Err(e), Ok(true), "draws"),
     }
 }

@@ -12,16 +12,16 @@ mod plain_tests;
 mod stored;
 
 use std::alloc::Global;
-use test_util::Told;
+use test_util::Verdict;
 
 /// What all rows tell.
-pub fn rows(alloc: Global) -> Told {
-    let mut told = Told::new();
-    binary_tests::a_source_gives_its_keyset_and_no_more_than_67108864_bytes(alloc, &mut told);
-    fault_tests::faults_come_through(alloc, &mut told);
-    core_tests::calls_answer_as_the_rows_say(alloc, &mut told);
-    encrypted_tests::keysets_go_through_memory(alloc, &mut told);
-    stored::keysets_are_read_in_pieces_or_refused(alloc, &mut told);
-    stored::keysets_are_written_in_pieces_or_refused(alloc, &mut told);
-    told
+pub fn rows(alloc: Global) -> Verdict {
+    let mut verdict = Verdict::new();
+    binary_tests::a_source_gives_its_keyset_and_no_more_than_67108864_bytes(alloc, &mut verdict);
+    fault_tests::faults_come_through(alloc, &mut verdict);
+    core_tests::calls_answer_as_the_rows_say(alloc, &mut verdict);
+    encrypted_tests::keysets_go_through_memory(alloc, &mut verdict);
+    stored::keysets_are_read_in_pieces_or_refused(alloc, &mut verdict);
+    stored::keysets_are_written_in_pieces_or_refused(alloc, &mut verdict);
+    verdict
 }

@@ -2,7 +2,7 @@
 
 use crate::{binary_tests, json_tests};
 use std::alloc::Global;
-use test_util::{Answer, Told, enabled_key, keyset, made};
+use test_util::{Answer, Verdict, enabled_key, keyset, succeeds};
 use tink_io::{Kind, MemSink, MemSource, Source, TinkError};
 use tink_keyset_io::{BinaryReader, BinaryWriter, JsonReader, JsonWriter};
 use tink_keysets::keyset::{Reader, Writer};
@@ -77,13 +77,13 @@ fn has_no_info(read: Result<EncryptedKeyset, TinkError>) -> Result<bool, TinkErr
     }
 }
 
-fn read<R: Reader>(told: &mut Told, alloc: Global, reader: &mut R, reading: &Reading) {
+fn read<R: Reader>(verdict: &mut Verdict, alloc: Global, reader: &mut R, reading: &Reading) {
     for (row, asked, want) in reading.rows {
         let got = match asked {
             Asked::Keyset(bytes) => is_keyset(alloc, reader.read(alloc), bytes),
             Asked::Encrypted => has_no_info(reader.read_encrypted(alloc)),
         };
-        told.expect(got, *want, row);
+        verdict.expect(got, *want, row);
     }
 }
 
@@ -92,17 +92,22 @@ fn is_at_end(mut source: MemSource) -> bool {
 }
 
 // Whether the source is at its end after its rows.
-fn ends(told: &mut Told, alloc: Global, form: &Form, reading: &Reading) -> Result<bool, TinkError> {
+fn ends(
+    verdict: &mut Verdict,
+    alloc: Global,
+    form: &Form,
+    reading: &Reading,
+) -> Result<bool, TinkError> {
     let source = source(alloc, reading)?;
     match form {
         Form::Binary => {
             let mut reader = BinaryReader::new(source);
-            read(told, alloc, &mut reader, reading);
+            read(verdict, alloc, &mut reader, reading);
             Ok(is_at_end(reader.into_inner()))
         }
         Form::Json => {
             let mut reader = JsonReader::new(source);
-            read(told, alloc, &mut reader, reading);
+            read(verdict, alloc, &mut reader, reading);
             Ok(is_at_end(reader.into_inner()))
         }
     }
@@ -113,11 +118,11 @@ const READINGS: &[(Form, &[Reading])] = &[
     (Form::Json, json_tests::READINGS),
 ];
 
-pub fn keysets_are_read_in_pieces_or_refused(alloc: Global, told: &mut Told) {
+pub fn keysets_are_read_in_pieces_or_refused(alloc: Global, verdict: &mut Verdict) {
     for (form, readings) in READINGS {
         for reading in *readings {
-            let got = ends(told, alloc, form, reading);
-            told.expect(got, Ok(reading.ends), "the source");
+            let got = ends(verdict, alloc, form, reading);
+            verdict.expect(got, Ok(reading.ends), "the source");
         }
     }
 }
@@ -179,7 +184,7 @@ fn write<W: Writer>(alloc: Global, writer: &mut W, writing: &Writing) -> Result<
 }
 
 // The answer, where the sink has taken what the row says.
-fn taken(
+fn answer_if_written(
     answer: Result<(), TinkError>,
     sink: &MemSink,
     writing: &Writing,
@@ -188,7 +193,7 @@ fn taken(
     let first = &writing.first[..writing.size.min(writing.first.len())];
     let both = bytes.len() == first.len() + writing.other.len();
     if both && bytes.starts_with(first) && bytes.ends_with(writing.other) {
-        made(answer)
+        succeeds(answer)
     } else {
         Ok(false)
     }
@@ -200,12 +205,12 @@ fn is_written(alloc: Global, form: &Form, writing: &Writing) -> Result<bool, Tin
         Form::Binary => {
             let mut writer = BinaryWriter::new(sink);
             let answer = write(alloc, &mut writer, writing);
-            taken(answer, &writer.into_inner(), writing)
+            answer_if_written(answer, &writer.into_inner(), writing)
         }
         Form::Json => {
             let mut writer = JsonWriter::new(sink);
             let answer = write(alloc, &mut writer, writing);
-            taken(answer, &writer.into_inner(), writing)
+            answer_if_written(answer, &writer.into_inner(), writing)
         }
     }
 }
@@ -215,11 +220,11 @@ const WRITINGS: &[(Form, &[Writing])] = &[
     (Form::Json, json_tests::WRITINGS),
 ];
 
-pub fn keysets_are_written_in_pieces_or_refused(alloc: Global, told: &mut Told) {
+pub fn keysets_are_written_in_pieces_or_refused(alloc: Global, verdict: &mut Verdict) {
     for (form, writings) in WRITINGS {
         for writing in *writings {
             let got = is_written(alloc, form, writing);
-            told.expect(got, writing.want, writing.name);
+            verdict.expect(got, writing.want, writing.name);
         }
     }
 }

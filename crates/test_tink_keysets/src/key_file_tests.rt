@@ -1,9 +1,9 @@
-ghost use Rattle.tink_io.specs.Told.{Answers};
+ghost use Rattle.tink_io.specs.Answering.{Answers};
 ghost use Rattle.tink_keyset_io.specs.Edited.{edited_file};
 ghost use Rattle.tink_keyset_io.specs.declared.key_files.editing.Edit.TheVariants.{Disable};
 
 use std::alloc::Global;
-use test_util::{Answer, Told, gives};
+use test_util::{Answer, Verdict, gives};
 use tink_io::{Kind, TinkError};
 use tink_keyset_io::key_files::{Edit, Format, edited_file, list, wire_bytes};
 use tink_proto::Bytes;
@@ -38,7 +38,7 @@ const DESTROYED_LINES: &[u8] =
     b"7\tenabled\tRAW\tAesGcmHkdfStreamingKey\tprimary\n8\tdestroyed\tTINK\t-\n";
 
 // The file with the first key of an id disabled, in the format that it has.
-fn disabled(alloc: Global, file: Vec<u8>, id: u32) -> Result<Bytes, TinkError>
+fn disable_in_file(alloc: Global, file: Vec<u8>, id: u32) -> Result<Bytes, TinkError>
     ensures { Answers result (edited_file file.items Disable id) }
 {
     edited_file(alloc, file, Edit::Disable, id)
@@ -54,7 +54,7 @@ fn lists(alloc: Global, file: Vec<u8>, lines: &[u8]) -> Result<bool, TinkError> 
 
 fn edit_of(alloc: Global, file: Vec<u8>, edit: Edit, id: u32) -> Result<Bytes, TinkError> {
     match edit {
-        Edit::Disable => disabled(alloc, file, id),
+        Edit::Disable => disable_in_file(alloc, file, id),
         _ => edited_file(alloc, file, edit, id),
     }
 }
@@ -78,7 +78,7 @@ fn lists_json(
 }
 
 // Whether a file lists these keys, which after an edit of the key of an id is in JSON, or how the edit is refused.
-fn answered(
+fn answer_row(
     alloc: Global,
     file: Vec<u8>,
     edit: &Option<(Edit, u32)>,
@@ -165,13 +165,13 @@ const FILES: &[(&str, &[u8], Option<(Edit, u32)>, &[u8], Answer)] = &[
     ),
 ];
 
-pub fn files_of_keys_are_listed_and_edited(alloc: Global, told: &mut Told) {
+pub fn files_of_keys_are_listed_and_edited(alloc: Global, verdict: &mut Verdict) {
     for (row, file, edit, lines, want) in FILES {
         let got = match Vec::from_slice(alloc, file) {
-            Ok(file) => answered(alloc, file, edit, lines),
+            Ok(file) => answer_row(alloc, file, edit, lines),
             Err(_) => Err(TinkError::new(Kind::OutOfMemory)),
         };
-        told.expect(got, *want, row);
+        verdict.expect(got, *want, row);
     }
 }
 
@@ -222,9 +222,9 @@ fn is_taken(alloc: Global, file: Result<Vec<u8>, TinkError>) -> Result<bool, Tin
     }
 }
 
-pub fn large_files_of_keys_are_refused(alloc: Global, told: &mut Told) {
+pub fn large_files_of_keys_are_refused(alloc: Global, verdict: &mut Verdict) {
     for (row, start, piece, times, want) in LARGE {
         let got = is_taken(alloc, large_file(alloc, start, piece, *times));
-        told.expect(got, *want, row);
+        verdict.expect(got, *want, row);
     }
 }

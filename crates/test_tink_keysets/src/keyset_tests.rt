@@ -1,11 +1,12 @@
 //! Each call once, rows that were worked out by hand, and a caller's contract.
 
 ghost use Rattle.keyset_model.specs.Edits as edits;
-ghost use Rattle.tink_keysets.specs.Told.{Edits};
+ghost use Rattle.tink_keysets.specs.Editing.{Edits};
 
 use std::alloc::Global;
 use test_util::{
-    Answer, Told, URL, bare, bytes_of, draws_of, gives, handle_of, key, keyset, kind_of, made,
+    Answer, URL, Verdict, bare, bytes_of, draws_of, gives, handle_of, key, keyset, kind_of,
+    succeeds,
 };
 use tink_core_subtle::random::{get_random_bytes, get_random_uint32};
 use tink_io::{Draws, Kind, TinkError};
@@ -57,7 +58,7 @@ enum Asked {
     Version,
 }
 
-fn answered(
+fn answer_row(
     alloc: Global,
     asked: &Asked,
     primary: u32,
@@ -65,11 +66,11 @@ fn answered(
 ) -> Result<bool, TinkError> {
     let keys = keys_of(alloc, rows)?;
     match asked {
-        Asked::Handle => made(handle_of(primary, keys)),
-        Asked::WithoutSecrets => made(Handle::new_with_no_secrets(keyset(primary, keys))),
-        Asked::Validity => made(validate(&keyset(primary, keys))),
-        Asked::KeyValidity => made(validate_key(&bare(DESTROYED, primary))),
-        Asked::Version => made(validate_key_version(primary, 1)),
+        Asked::Handle => succeeds(handle_of(primary, keys)),
+        Asked::WithoutSecrets => succeeds(Handle::new_with_no_secrets(keyset(primary, keys))),
+        Asked::Validity => succeeds(validate(&keyset(primary, keys))),
+        Asked::KeyValidity => succeeds(validate_key(&bare(DESTROYED, primary))),
+        Asked::Version => succeeds(validate_key_version(primary, 1)),
     }
 }
 
@@ -142,9 +143,9 @@ const KEYSETS: &[(&str, Asked, u32, &[KeyRow], Answer)] = &[
     ("version 2", Asked::Version, 2, &[], Err(Kind::BadVersion)),
 ];
 
-pub fn keysets_are_held_or_refused(alloc: Global, told: &mut Told) {
+pub fn keysets_are_held_or_refused(alloc: Global, verdict: &mut Verdict) {
     for (row, asked, primary, keys, want) in KEYSETS {
-        told.expect(answered(alloc, asked, *primary, keys), *want, row);
+        verdict.expect(answer_row(alloc, asked, *primary, keys), *want, row);
     }
 }
 
@@ -212,10 +213,10 @@ fn two_keys_tell(alloc: Global) -> Result<bool, TinkError> {
     }
 }
 
-pub fn a_handle_tells_no_key_material(alloc: Global, told: &mut Told) {
-    told.expect(two_keys_tell(alloc), Ok(true), "text, bytes and info");
-    let cut = made(decode(alloc, b"\x08"));
-    told.expect(cut, Err(Kind::BadKeyset), "no keyset");
+pub fn a_handle_tells_no_key_material(alloc: Global, verdict: &mut Verdict) {
+    verdict.expect(two_keys_tell(alloc), Ok(true), "text, bytes and info");
+    let cut = succeeds(decode(alloc, b"\x08"));
+    verdict.expect(cut, Err(Kind::BadKeyset), "no keyset");
 }
 
 // ---- the commands of a manager
@@ -227,7 +228,7 @@ fn retire(manager: &mut Manager, id: u32) -> Result<(), TinkError>
     manager.disable(id)
 }
 
-pub fn managed(h: Result<Handle, TinkError>) -> Result<Manager, TinkError> {
+pub fn manager_of_handle(h: Result<Handle, TinkError>) -> Result<Manager, TinkError> {
     match h {
         Ok(h) => Ok(Manager::new_from_handle(h)),
         Err(e) => Err(e),
@@ -240,7 +241,7 @@ fn manager_of(alloc: Global, status: i32) -> Result<Manager, TinkError> {
         alloc,
         &[(Some(SYMMETRIC), status, 2), (Some(SYMMETRIC), status, 2)],
     )?;
-    managed(handle_of(1, keys))
+    manager_of_handle(handle_of(1, keys))
 }
 
 // A command on the keys of an id, or what is asked after it.
@@ -277,12 +278,12 @@ fn material_of(alloc: Global, manager: &Manager) -> Result<Keyset, TinkError> {
 
 fn does(alloc: Global, manager: &mut Manager, step: &Step) -> Result<bool, TinkError> {
     match step {
-        Step::Retire(id) => made(retire(manager, *id)),
-        Step::Enable(id) => made(manager.enable(*id)),
-        Step::Disable(id) => made(manager.disable(*id)),
-        Step::Destroy(id) => made(manager.destroy(*id)),
-        Step::Delete(id) => made(manager.delete(*id)),
-        Step::SetPrimary(id) => made(manager.set_primary(*id)),
+        Step::Retire(id) => succeeds(retire(manager, *id)),
+        Step::Enable(id) => succeeds(manager.enable(*id)),
+        Step::Disable(id) => succeeds(manager.disable(*id)),
+        Step::Destroy(id) => succeeds(manager.destroy(*id)),
+        Step::Delete(id) => succeeds(manager.delete(*id)),
+        Step::SetPrimary(id) => succeeds(manager.set_primary(*id)),
         Step::First(status, has_data) => first_key_is(alloc, manager, *status, *has_data),
         Step::Count(n) => Ok(manager.key_count() == *n),
     }
@@ -367,21 +368,21 @@ const MANAGERS: &[(i32, &[Row])] = &[
     ),
 ];
 
-fn walk(told: &mut Told, alloc: Global, status: i32, rows: &[Row]) -> Result<(), TinkError> {
+fn walk(verdict: &mut Verdict, alloc: Global, status: i32, rows: &[Row]) -> Result<(), TinkError> {
     let mut manager = manager_of(alloc, status)?;
     for (row, step, want) in rows {
-        told.expect(does(alloc, &mut manager, step), *want, row);
+        verdict.expect(does(alloc, &mut manager, step), *want, row);
     }
     Ok(())
 }
 
-pub fn a_manager_edits_its_keys(alloc: Global, told: &mut Told) {
+pub fn a_manager_edits_its_keys(alloc: Global, verdict: &mut Verdict) {
     for (status, rows) in MANAGERS {
-        let walked = made(walk(told, alloc, *status, rows));
-        told.expect(walked, Ok(true), "a manager");
+        let walked = succeeds(walk(verdict, alloc, *status, rows));
+        verdict.expect(walked, Ok(true), "a manager");
     }
     let is_empty = Manager::new(alloc).key_count() == 0;
-    told.expect(Ok(is_empty), Ok(true), "a new one has no keys");
+    verdict.expect(Ok(is_empty), Ok(true), "a new one has no keys");
 }
 
 pub fn laws_can_be_called() {
@@ -440,8 +441,8 @@ fn holds(alloc: Global, memory: &mut MemReaderWriter) -> Result<bool, TinkError>
     Ok(empty && encrypted && passes_two_keys(alloc, memory)?)
 }
 
-pub fn random_bytes_and_memory(alloc: Global, told: &mut Told) {
-    told.expect(seven_are_drawn(alloc), Ok(true), "the next draws");
+pub fn random_bytes_and_memory(alloc: Global, verdict: &mut Verdict) {
+    verdict.expect(seven_are_drawn(alloc), Ok(true), "the next draws");
     let held = holds(alloc, &mut MemReaderWriter::default());
-    told.expect(held, Ok(true), "what was written and encrypted");
+    verdict.expect(held, Ok(true), "what was written and encrypted");
 }

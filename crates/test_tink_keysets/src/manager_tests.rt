@@ -1,9 +1,9 @@
 //! Adding keys, and public parts, over a registry of test keys.
 
-use crate::keyset_tests::managed;
+use crate::keyset_tests::manager_of_handle;
 use std::alloc::Global;
 use test_util::{
-    Answer, TestManager, Told, URL, bare, handle_of, key, made, registry_of, template,
+    Answer, TestManager, URL, Verdict, bare, handle_of, key, registry_of, succeeds, template,
 };
 use tink_io::{Draws, Kind, TinkError};
 use tink_keysets::keyset::insecure::keyset_material;
@@ -48,7 +48,7 @@ fn handle_of_one(alloc: Global, primary: u32, only: Key) -> Result<Handle, TinkE
 // The manager of one key of id 01020304, which is the primary one.
 fn manager_of_one(alloc: Global) -> Result<Manager, TinkError> {
     let only = key(alloc, 1, 1, 0x01020304)?;
-    managed(handle_of_one(alloc, 0x01020304, only))
+    manager_of_handle(handle_of_one(alloc, 0x01020304, only))
 }
 
 // The manager of a new handle, whose key has the id 01020304.
@@ -56,7 +56,7 @@ fn manager_of_new(alloc: Global, registry: &Registry<TestManager>) -> Result<Man
     law_managers_give_held(registry);
     let mut draws = draws_with(alloc, b"\x01\x02\x03\x04")?;
     match template(alloc, URL, &[], 1) {
-        Ok(kt) => managed(Handle::new(alloc, &kt, registry, &mut draws)),
+        Ok(kt) => manager_of_handle(Handle::new(alloc, &kt, registry, &mut draws)),
         Err(e) => Err(e),
     }
 }
@@ -99,7 +99,7 @@ enum How {
 }
 
 // The id of a new key by a template of the URL, the format and the prefix type.
-fn added(
+fn add_key(
     alloc: Global,
     manager: &mut Manager,
     registry: &Registry<TestManager>,
@@ -138,7 +138,7 @@ fn gets_id(
     let prefix = if matches!(how, How::Rotation) { 1 } else { 3 };
     match draws_with(alloc, ids) {
         Ok(mut draws) => {
-            let id = added(
+            let id = add_key(
                 alloc,
                 manager,
                 registry,
@@ -164,7 +164,7 @@ fn does(
         Step::Rotate(ids, want) => gets_id(alloc, manager, registry, &How::Rotation, ids, *want),
         Step::RotateBy(url, format, prefix) => {
             let by = (*url, *format, *prefix);
-            made(added(alloc, manager, registry, draws, &How::Rotation, by))
+            succeeds(add_key(alloc, manager, registry, draws, &How::Rotation, by))
         }
         Step::HasIds(primary, last) => has_ids(alloc, manager, *primary, *last),
         Step::Count(n) => Ok(manager.key_count() == *n),
@@ -244,7 +244,7 @@ const OF_NEW: &[Row] = &[
 ];
 
 fn walk(
-    told: &mut Told,
+    verdict: &mut Verdict,
     alloc: Global,
     registry: &Registry<TestManager>,
     manager: &mut Manager,
@@ -253,32 +253,32 @@ fn walk(
     let mut draws = draws_with(alloc, &[0; 512])?;
     for (row, step, want) in rows {
         let got = does(alloc, manager, registry, step, &mut draws);
-        told.expect(got, *want, row);
+        verdict.expect(got, *want, row);
     }
     Ok(())
 }
 
 fn walk_with(
-    told: &mut Told,
+    verdict: &mut Verdict,
     alloc: Global,
     registry: &Registry<TestManager>,
     manager: Result<Manager, TinkError>,
     rows: &[Row],
 ) -> Result<(), TinkError> {
     match manager {
-        Ok(mut manager) => walk(told, alloc, registry, &mut manager, rows),
+        Ok(mut manager) => walk(verdict, alloc, registry, &mut manager, rows),
         Err(e) => Err(e),
     }
 }
 
 fn walk_all(
-    told: &mut Told,
+    verdict: &mut Verdict,
     alloc: Global,
     registry: &Registry<TestManager>,
 ) -> Result<(), TinkError> {
-    walk_with(told, alloc, registry, manager_of_one(alloc), OF_ONE)?;
+    walk_with(verdict, alloc, registry, manager_of_one(alloc), OF_ONE)?;
     walk_with(
-        told,
+        verdict,
         alloc,
         registry,
         manager_of_new(alloc, registry),
@@ -295,7 +295,7 @@ fn is_added(
     how: &How,
 ) -> bool {
     match draws_with(alloc, &[0, 0, 0, id]) {
-        Ok(mut draws) => added(alloc, manager, registry, &mut draws, how, (URL, &[], 3)).is_ok(),
+        Ok(mut draws) => add_key(alloc, manager, registry, &mut draws, how, (URL, &[], 3)).is_ok(),
         Err(_) => false,
     }
 }
@@ -332,12 +332,12 @@ fn are_added_or_left(
     Ok(holds && 4 <= count)
 }
 
-pub fn a_manager_adds_keys(alloc: Global, told: &mut Told) {
+pub fn a_manager_adds_keys(alloc: Global, verdict: &mut Verdict) {
     let walked = match registry_with(alloc, &Managed::Symmetric) {
-        Ok(registry) => walk_all(told, alloc, &registry),
+        Ok(registry) => walk_all(verdict, alloc, &registry),
         Err(e) => Err(e),
     };
-    told.expect(made(walked), Ok(true), "a registry and managers");
+    verdict.expect(succeeds(walked), Ok(true), "a registry and managers");
 }
 
 // What is so of a manager of one key and a registry of symmetric keys.
@@ -352,9 +352,9 @@ fn four_are_added_or_left(alloc: Global) -> Result<bool, TinkError> {
 }
 
 /// A call that is refused for `OutOfMemory` leaves the keys and the primary id, and one that isn't adds a key.
-pub fn a_key_is_added_or_the_keyset_is_left(alloc: Global, told: &mut Told) {
+pub fn a_key_is_added_or_the_keyset_is_left(alloc: Global, verdict: &mut Verdict) {
     let got = four_are_added_or_left(alloc);
-    told.expect(got, Ok(true), "the keys and the ids");
+    verdict.expect(got, Ok(true), "the keys and the ids");
 }
 
 // ---- public parts
@@ -392,7 +392,7 @@ fn handle_of_material(alloc: Global, material: i32) -> Result<Handle, TinkError>
     }
 }
 
-fn answered(alloc: Global, managed: &Managed, material: i32) -> Result<bool, TinkError> {
+fn answer_row(alloc: Global, managed: &Managed, material: i32) -> Result<bool, TinkError> {
     let registry = registry_with(alloc, managed)?;
     match handle_of_material(alloc, material) {
         Ok(h) => public_is_no_secret(alloc, &registry, &h),
@@ -429,8 +429,8 @@ const PUBLIC_PARTS: &[(&str, Managed, i32, Answer)] = &[
     ),
 ];
 
-pub fn public_parts_are_of_private_keys(alloc: Global, told: &mut Told) {
+pub fn public_parts_are_of_private_keys(alloc: Global, verdict: &mut Verdict) {
     for (row, managed, material, want) in PUBLIC_PARTS {
-        told.expect(answered(alloc, managed, *material), *want, row);
+        verdict.expect(answer_row(alloc, managed, *material), *want, row);
     }
 }

@@ -1,7 +1,7 @@
 //! What rows ask of MACs and of their keys.
 
 use std::alloc::Global;
-use test_util::{Answer, Ask, draws_of, gives, made};
+use test_util::{Answer, Ask, draws_of, gives, succeeds};
 use tink_io::{Draws, TinkError};
 use tink_mac::subtle::{AesCmac, Hmac, validate_cmac_params, validate_hmac_params};
 use tink_mac::{AesCmacKeyManager, HmacKeyManager, MacKind, MacKinds};
@@ -128,12 +128,12 @@ impl Ask<bool> for Asked {
                 let mac = if *of_copy { copy_of(alloc, own) } else { own };
                 is_tag_of(alloc, mac, tag, text)
             }
-            Asked::New(ref of, size) => made(new_mac(alloc, of, &[7; 64][..size.min(64)])),
+            Asked::New(ref of, size) => succeeds(new_mac(alloc, of, &[7; 64][..size.min(64)])),
             Asked::Make(ref of, format, draws, left, tag) => {
                 is_made(alloc, of, format, draws_of(alloc, draws), left, tag)
             }
-            Asked::AesCmacParams(size, tags) => made(validate_cmac_params(size, tags)),
-            Asked::HmacParams(hash, size, tags) => made(validate_hmac_params(hash, size, tags)),
+            Asked::AesCmacParams(size, tags) => succeeds(validate_cmac_params(size, tags)),
+            Asked::HmacParams(hash, size, tags) => succeeds(validate_hmac_params(hash, size, tags)),
         }
     }
 }

@@ -2,7 +2,7 @@
 
 use crate::asked::{ABC, Asked, Of, Row};
 use std::alloc::Global;
-use test_util::{Answer, Told};
+use test_util::{Answer, Verdict};
 use tink_io::Kind;
 
 // The draws of most formats.
@@ -240,8 +240,8 @@ const NEW_KEYS: &[Row] = &[(
     Ok(true),
 )];
 
-pub fn rows(alloc: Global, told: &mut Told) {
-    told.walk(alloc, false, HMAC);
-    told.walk(alloc, false, AES_CMAC);
-    told.walk(alloc, false, NEW_KEYS);
+pub fn rows(alloc: Global, verdict: &mut Verdict) {
+    verdict.walk(alloc, false, HMAC);
+    verdict.walk(alloc, false, AES_CMAC);
+    verdict.walk(alloc, false, NEW_KEYS);
 }

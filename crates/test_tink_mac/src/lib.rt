@@ -9,15 +9,15 @@ mod vectors;
 mod wrapped;
 
 use std::alloc::Global;
-use test_util::Told;
+use test_util::Verdict;
 
 /// The answers of all rows.
-pub fn rows(alloc: Global) -> Told {
-    let mut told = Told::new();
-    keys::rows(alloc, &mut told);
-    registering::rows(alloc, &mut told);
-    sizes::rows(alloc, &mut told);
-    vectors::rows(alloc, &mut told);
-    wrapped::rows(alloc, &mut told);
-    told
+pub fn rows(alloc: Global) -> Verdict {
+    let mut verdict = Verdict::new();
+    keys::rows(alloc, &mut verdict);
+    registering::rows(alloc, &mut verdict);
+    sizes::rows(alloc, &mut verdict);
+    vectors::rows(alloc, &mut verdict);
+    wrapped::rows(alloc, &mut verdict);
+    verdict
 }

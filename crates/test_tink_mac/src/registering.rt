@@ -2,7 +2,7 @@
 
 use std::alloc::Global;
 use test_util::{
-    Answer, Ask, NamedRegistry, Registered, Template, Told, is_made_and_registered, made,
+    Answer, Ask, NamedRegistry, Registered, Template, Verdict, is_made_and_registered, succeeds,
 };
 use tink_io::{Kind, TinkError};
 use tink_mac::{
@@ -36,7 +36,7 @@ fn template_of(alloc: Global, name: &str) -> Result<KeyTemplate, TinkError> {
 impl Ask<NamedRegistry> for Step {
     fn answer(&self, alloc: Global, registry: &mut NamedRegistry) -> Result<bool, TinkError> {
         match *self {
-            Step::Init => made(init(alloc, registry)),
+            Step::Init => succeeds(init(alloc, registry)),
             Step::Template(ref template) => {
                 is_made_and_registered(registry, template, template_of(alloc, template.0))
             }
@@ -160,8 +160,8 @@ const CONSTANTS: &[Row] = &[
 ];
 
 // The tables are of a new registry each.
-pub fn rows(alloc: Global, told: &mut Told) {
-    told.walk(alloc, Registry::new(alloc), CONSTANTS);
-    told.walk(alloc, Registry::new(alloc), TEMPLATES);
-    told.walk(alloc, Registry::new(alloc), BESIDE);
+pub fn rows(alloc: Global, verdict: &mut Verdict) {
+    verdict.walk(alloc, Registry::new(alloc), CONSTANTS);
+    verdict.walk(alloc, Registry::new(alloc), TEMPLATES);
+    verdict.walk(alloc, Registry::new(alloc), BESIDE);
 }

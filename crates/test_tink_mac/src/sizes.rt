@@ -2,7 +2,7 @@
 
 use crate::asked::{Asked, Of, Row};
 use std::alloc::Global;
-use test_util::{Answer, Told};
+use test_util::{Answer, Verdict};
 use tink_io::Kind;
 use tink_proto::HashType;
 
@@ -115,6 +115,6 @@ const SIZES: &[Row] = &[
     ),
 ];
 
-pub fn rows(alloc: Global, told: &mut Told) {
-    told.walk(alloc, false, SIZES);
+pub fn rows(alloc: Global, verdict: &mut Verdict) {
+    verdict.walk(alloc, false, SIZES);
 }

@@ -2,7 +2,7 @@
 
 use crate::asked::{ABC, Asked, Of, Row};
 use std::alloc::Global;
-use test_util::{Answer, Told};
+use test_util::{Answer, Verdict};
 use tink_io::Kind;
 use tink_proto::HashType;
 
@@ -215,12 +215,12 @@ const TAGS: &[Row] = &[
     ),
 ];
 
-fn vectors(alloc: Global, told: &mut Told, of_copy: bool) {
-    told.walk(alloc, of_copy, VECTORS);
-    told.walk(alloc, of_copy, TAGS);
+fn vectors(alloc: Global, verdict: &mut Verdict, of_copy: bool) {
+    verdict.walk(alloc, of_copy, VECTORS);
+    verdict.walk(alloc, of_copy, TAGS);
 }
 
-pub fn rows(alloc: Global, told: &mut Told) {
-    vectors(alloc, told, false);
-    vectors(alloc, told, true);
+pub fn rows(alloc: Global, verdict: &mut Verdict) {
+    vectors(alloc, verdict, false);
+    vectors(alloc, verdict, true);
 }

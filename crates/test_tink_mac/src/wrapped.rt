@@ -1,11 +1,11 @@
 //! The MACs of keysets of HMAC keys.
 
-ghost use Rattle.tink_io.specs.Told.{Answers};
+ghost use Rattle.tink_io.specs.Answering.{Answers};
 ghost use Rattle.tink_mac.specs.Wrapped.{primary_mac};
 
 use crate::asked::is_tag;
 use std::alloc::Global;
-use test_util::{Answer, Ask, Told, asked, draws_of, gives, handle, made, registry_of};
+use test_util::{Answer, Ask, Verdict, ask_made, draws_of, gives, handle, registry_of, succeeds};
 use tink_io::{Draws, Kind, TinkError};
 use tink_keysets::keyset::{Handle, Manager};
 use tink_mac::{
@@ -30,7 +30,7 @@ const DRAWS: &[u8; 72] =
     b"\x03\x03\x03\x03\x03\x03\x03\x03\x03\x03\x03\x03\x03\x03\x03\x03\x03\x03\x03\x03\x03\x03\x03\x03\x03\x03\x03\x03\x03\x03\x03\x03\x03\x03\x03\x03\x04\x04\x04\x04\x04\x04\x04\x04\x04\x04\x04\x04\x04\x04\x04\x04\x04\x04\x04\x04\x04\x04\x04\x04\x04\x04\x04\x04\x04\x04\x04\x04\x04\x04\x04\x04";
 
 // The handle of a key that is rotated.
-fn rotated(
+fn rotate_keyset(
     alloc: Global,
     registry: &Macs,
     kt: &KeyTemplate,
@@ -55,7 +55,7 @@ fn made_handle(
     match Handle::new(alloc, kt, registry, draws) {
         Ok(h) => {
             if rotates {
-                rotated(alloc, registry, kt, draws, h)
+                rotate_keyset(alloc, registry, kt, draws, h)
             } else {
                 Ok(h)
             }
@@ -106,7 +106,7 @@ impl Ask<Wrapped> for Asked {
     fn answer(&self, alloc: Global, macs: &mut Wrapped) -> Result<bool, TinkError> {
         match *self {
             Asked::Make(mac) => gives(mac_of(alloc, macs, b"abc"), mac),
-            Asked::Accept(mac) => made(macs.verify_mac(alloc, mac, b"abc")),
+            Asked::Accept(mac) => succeeds(macs.verify_mac(alloc, mac, b"abc")),
             Asked::Copy(mac) => match macs.try_clone(alloc) {
                 Ok(copy) => is_tag(alloc, &copy, mac, b"abc"),
                 Err(e) => Err(e),
@@ -121,7 +121,7 @@ struct Of(Keys, Asked);
 impl Ask<Macs> for Of {
     fn answer(&self, alloc: Global, registry: &mut Macs) -> Result<bool, TinkError> {
         match handle_by(alloc, registry, &self.0) {
-            Ok(h) => asked(alloc, new(alloc, &h, registry), &self.1),
+            Ok(h) => ask_made(alloc, new(alloc, &h, registry), &self.1),
             Err(e) => Err(e),
         }
     }
@@ -244,12 +244,12 @@ const ROWS: &[(&str, Of, Answer)] = &[
 ];
 
 /// Each row, and that the laws hold of these types.
-pub fn rows(alloc: Global, told: &mut Told) {
+pub fn rows(alloc: Global, verdict: &mut Verdict) {
     law_old_macs_verify::<HmacKeyManager, MacKind>();
     law_own_tags_accepted();
     law_built_macs_are_sound();
     law_macs_outlive_commands::<HmacKeyManager, MacKind>();
-    told.walk_made(
+    verdict.walk_made(
         alloc,
         registry_of(alloc, HmacKeyManager::new()),
         "the registry",

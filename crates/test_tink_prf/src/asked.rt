@@ -3,10 +3,10 @@
 ghost use Rattle.std.specs.Prelude.{Ok, take};
 ghost use Rattle.hash_keys.specs.declared.Hash.TheVariants as hashes;
 ghost use Rattle.hash_keys.specs.Hash.{hmac_of};
-ghost use Rattle.tink_io.specs.Told.{Answers};
+ghost use Rattle.tink_io.specs.Answering.{Answers};
 
 use std::alloc::Global;
-use test_util::{Answer, Ask, draws_of, gives, made};
+use test_util::{Answer, Ask, draws_of, gives, succeeds};
 use tink_io::{Draws, TinkError};
 use tink_prf::subtle::{
     AesCmacPrf, HkdfPrf, HmacPrf, validate_aes_cmac_prf_params, validate_hkdf_prf_params,
@@ -88,7 +88,7 @@ fn copy_of(alloc: Global, prf: Result<PrfKind, TinkError>) -> Result<PrfKind, Ti
 }
 
 // So many bytes of what a function makes of a text.
-fn computed(
+fn compute(
     alloc: Global,
     prf: Result<PrfKind, TinkError>,
     text: &[u8],
@@ -124,7 +124,7 @@ fn has_output(
 ) -> Result<bool, TinkError> {
     match key {
         Ok(key) => gives(
-            computed(alloc, new_prf(alloc, of, key.as_slice()), ABC, want.len()),
+            compute(alloc, new_prf(alloc, of, key.as_slice()), ABC, want.len()),
             want,
         ),
         Err(e) => Err(e),
@@ -156,10 +156,10 @@ impl Ask<bool> for Asked {
             Asked::Output(ref of, key, text, want) => {
                 let own = new_prf(alloc, of, key);
                 let prf = if *of_copy { copy_of(alloc, own) } else { own };
-                gives(computed(alloc, prf, text, want.len()), want)
+                gives(compute(alloc, prf, text, want.len()), want)
             }
             Asked::Length(ref of, size, length) => has_length(
-                computed(
+                compute(
                     alloc,
                     new_prf(alloc, of, &[7; 64][..size.min(64)]),
                     ABC,
@@ -170,9 +170,9 @@ impl Ask<bool> for Asked {
             Asked::Make(ref of, format, draws, left, want) => {
                 is_made(alloc, of, format, draws_of(alloc, draws), left, want)
             }
-            Asked::AesCmacParams(size) => made(validate_aes_cmac_prf_params(size)),
-            Asked::HkdfParams(hash, size) => made(validate_hkdf_prf_params(hash, size, b"")),
-            Asked::HmacParams(hash, size) => made(validate_hmac_prf_params(hash, size)),
+            Asked::AesCmacParams(size) => succeeds(validate_aes_cmac_prf_params(size)),
+            Asked::HkdfParams(hash, size) => succeeds(validate_hkdf_prf_params(hash, size, b"")),
+            Asked::HmacParams(hash, size) => succeeds(validate_hmac_prf_params(hash, size)),
             Asked::Code(key, text, want) => gives(code_of(alloc, key, text), want),
         }
     }

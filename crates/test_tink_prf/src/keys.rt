@@ -2,7 +2,7 @@
 
 use crate::asked::{ABC, Asked, Of, Row};
 use std::alloc::Global;
-use test_util::{Answer, Told};
+use test_util::{Answer, Verdict};
 use tink_io::Kind;
 
 /// Bytes, each its own place.
@@ -396,12 +396,12 @@ const NEW_KEYS: &[Row] = &[
     ),
 ];
 
-pub fn hmac_rows(alloc: Global, told: &mut Told) {
-    told.walk(alloc, false, HMAC_PRF);
+pub fn hmac_rows(alloc: Global, verdict: &mut Verdict) {
+    verdict.walk(alloc, false, HMAC_PRF);
 }
 
-pub fn rows(alloc: Global, told: &mut Told) {
-    told.walk(alloc, false, HKDF_PRF);
-    told.walk(alloc, false, AES_CMAC_PRF);
-    told.walk(alloc, false, NEW_KEYS);
+pub fn rows(alloc: Global, verdict: &mut Verdict) {
+    verdict.walk(alloc, false, HKDF_PRF);
+    verdict.walk(alloc, false, AES_CMAC_PRF);
+    verdict.walk(alloc, false, NEW_KEYS);
 }

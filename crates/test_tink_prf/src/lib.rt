@@ -10,16 +10,16 @@ mod test_keys;
 mod vectors;
 
 use std::alloc::Global;
-use test_util::Told;
+use test_util::Verdict;
 
 /// The answers of all rows.
-pub fn rows(alloc: Global) -> Told {
-    let mut told = Told::new();
-    keys::hmac_rows(alloc, &mut told);
-    keys::rows(alloc, &mut told);
-    registering::rows(alloc, &mut told);
-    sets::rows(alloc, &mut told);
-    sizes::rows(alloc, &mut told);
-    vectors::rows(alloc, &mut told);
-    told
+pub fn rows(alloc: Global) -> Verdict {
+    let mut verdict = Verdict::new();
+    keys::hmac_rows(alloc, &mut verdict);
+    keys::rows(alloc, &mut verdict);
+    registering::rows(alloc, &mut verdict);
+    sets::rows(alloc, &mut verdict);
+    sizes::rows(alloc, &mut verdict);
+    vectors::rows(alloc, &mut verdict);
+    verdict
 }

@@ -1,13 +1,13 @@
 //! Sets of a keyset's pseudorandom functions.
 
-ghost use Rattle.tink_io.specs.Told.{Answers};
+ghost use Rattle.tink_io.specs.Answering.{Answers};
 ghost use Rattle.tink_prf.specs.Sets.{primary_output};
 
 use crate::keys::COUNT;
 use crate::test_keys::TestKeys;
 use std::alloc::Global;
 use std::collections::BTreeMap;
-use test_util::{Answer, Ask, Told, draws_of, gives, handle, registry_of};
+use test_util::{Answer, Ask, Verdict, draws_of, gives, handle, registry_of};
 use tink_io::{Kind, TinkError};
 use tink_key_manager::SymmetricKeyManager;
 use tink_keysets::keyset::Handle;
@@ -55,7 +55,7 @@ fn primary_of<P: Prf + Drop>(
     set.compute_primary_prf(alloc, text, length)
 }
 
-fn answered<P: Prf + Drop>(
+fn answer_row<P: Prf + Drop>(
     alloc: Global,
     set: Result<Set<P>, TinkError>,
     asked: &Asked,
@@ -79,13 +79,13 @@ impl Ask<TestRegistry> for Of {
     fn answer(&self, alloc: Global, registry: &mut TestRegistry) -> Result<bool, TinkError> {
         match self.0 {
             Keys::Test(keyset) => match handle(alloc, keyset) {
-                Ok(h) => answered(alloc, Set::new(alloc, &h, registry), &self.1),
+                Ok(h) => answer_row(alloc, Set::new(alloc, &h, registry), &self.1),
                 Err(e) => Err(e),
             },
             Keys::Nothing => {
                 let prfs: BTreeMap<u32, HmacPrf> = BTreeMap::new(alloc);
                 let primary_id = 7;
-                answered(alloc, Ok(Set { primary_id, prfs }), &self.1)
+                answer_row(alloc, Ok(Set { primary_id, prfs }), &self.1)
             }
         }
     }
@@ -106,7 +106,7 @@ fn new_handle(alloc: Global, registry: &Hmacs) -> Result<Handle, TinkError> {
 impl Ask<Hmacs> for Asked {
     fn answer(&self, alloc: Global, registry: &mut Hmacs) -> Result<bool, TinkError> {
         match new_handle(alloc, registry) {
-            Ok(h) => answered(alloc, Set::new(alloc, &h, registry), self),
+            Ok(h) => answer_row(alloc, Set::new(alloc, &h, registry), self),
             Err(e) => Err(e),
         }
     }
@@ -266,14 +266,14 @@ const NEW_ROWS: &[(&str, Asked, Answer)] = &[
     ),
 ];
 
-pub fn rows(alloc: Global, told: &mut Told) {
-    told.walk_made(
+pub fn rows(alloc: Global, verdict: &mut Verdict) {
+    verdict.walk_made(
         alloc,
         registry_of(alloc, SymmetricKeyManager::<TestKeys>::new()),
         "the registry of test keys",
         ROWS,
     );
-    told.walk_made(
+    verdict.walk_made(
         alloc,
         registry_of(alloc, HmacPrfKeyManager::new()),
         "the registry of HMAC",

@@ -2,7 +2,7 @@
 
 use crate::asked::{Asked, Of, Row};
 use std::alloc::Global;
-use test_util::{Answer, Told};
+use test_util::{Answer, Verdict};
 use tink_io::Kind;
 use tink_proto::HashType;
 
@@ -205,7 +205,7 @@ const CMAC_KEYS: &[Row] = &[
     cmac_key!(40, BAD_KEY),
 ];
 
-pub fn rows(alloc: Global, told: &mut Told) {
-    told.walk(alloc, false, SIZES);
-    told.walk(alloc, false, CMAC_KEYS);
+pub fn rows(alloc: Global, verdict: &mut Verdict) {
+    verdict.walk(alloc, false, SIZES);
+    verdict.walk(alloc, false, CMAC_KEYS);
 }

@@ -2,7 +2,7 @@
 
 use crate::asked::{ABC, Asked, Of, Row};
 use std::alloc::Global;
-use test_util::Told;
+use test_util::Verdict;
 use tink_proto::HashType;
 
 // RFC 4493, section 4, and SP 800-38B, D.1 to D.3.
@@ -232,13 +232,13 @@ const CODES: &[Row] = &[
     ),
 ];
 
-fn vectors(alloc: Global, told: &mut Told, of_copy: bool) {
-    told.walk(alloc, of_copy, VECTORS);
-    told.walk(alloc, of_copy, HMAC_VECTORS);
+fn vectors(alloc: Global, verdict: &mut Verdict, of_copy: bool) {
+    verdict.walk(alloc, of_copy, VECTORS);
+    verdict.walk(alloc, of_copy, HMAC_VECTORS);
 }
 
-pub fn rows(alloc: Global, told: &mut Told) {
-    vectors(alloc, told, false);
-    vectors(alloc, told, true);
-    told.walk(alloc, false, CODES);
+pub fn rows(alloc: Global, verdict: &mut Verdict) {
+    vectors(alloc, verdict, false);
+    vectors(alloc, verdict, true);
+    verdict.walk(alloc, false, CODES);
 }

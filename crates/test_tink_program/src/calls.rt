@@ -4,7 +4,8 @@ use crate::callers::in_memory;
 use crate::tables::tables_of;
 use std::alloc::Global;
 use test_rows::{
-    Calls, Ends, Side, answered, bytes_of, draws_of, first_of, number, number_of, setting, side_of,
+    Calls, Ends, Side, bytes_of, draws_of, first_of, number, number_of, setting, side_of,
+    status_and_line,
 };
 use test_util::registry_of;
 use tink_daead::subtle::AesSiv;
@@ -112,7 +113,7 @@ fn by_run(
     let mut draws = draws_of(alloc, draws)?;
     let answer = report_of(alloc, first_of(words), (&from, &to), &mut draws, ends);
     if is_reported(&answer, settings) && draws.left() == number_of(settings, "left", 0) {
-        Ok(answered(answer, ends))
+        Ok(status_and_line(answer, ends))
     } else {
         Ok(1)
     }
@@ -134,7 +135,7 @@ fn by_load(alloc: Global, words: &[String], ends: &mut Ends) -> Result<u8, TinkE
     let keyset = bytes_of(alloc, words, 1)?;
     match load(alloc, &keyset) {
         Ok(keys) => put_keys(alloc, &keys, ends),
-        Err(e) => Ok(answered::<u8>(Err(e), ends)),
+        Err(e) => Ok(status_and_line::<u8>(Err(e), ends)),
     }
 }
 
@@ -154,7 +155,7 @@ fn put_keys(
             let text = format!(in alloc;
                 "{id} {prefix} {header} {segment} primary {whole} {beside}"
             )?;
-            Ok(answered(write_all(&mut ends.sink, text.as_bytes()), ends))
+            Ok(status_and_line(write_all(&mut ends.sink, text.as_bytes()), ends))
         }
         _ => Ok(1),
     }
@@ -171,7 +172,7 @@ fn by_keygen(
     let mut draws = Draws::new(vec![in alloc; 0u8; count]?);
     match keygen(alloc, template, &mut draws) {
         Ok(_) => Ok(0),
-        Err(e) => Ok(answered::<u8>(Err(e), ends)),
+        Err(e) => Ok(status_and_line::<u8>(Err(e), ends)),
     }
 }
 
@@ -179,10 +180,10 @@ fn by_keygen(
 fn by_input(alloc: Global, words: &[String], ends: &mut Ends) -> Result<u8, TinkError> {
     let input = read_whole(alloc, &mut ends.source, 100_000, Kind::InputTooLong)?;
     match first_of(words) {
-        "bytes" => Ok(answered(write_all(&mut ends.sink, &input), ends)),
+        "bytes" => Ok(status_and_line(write_all(&mut ends.sink, &input), ends)),
         way => match siv_makes(alloc, words, &input, way == "encrypt") {
-            Ok(bytes) => Ok(answered(write_all(&mut ends.sink, bytes.as_slice()), ends)),
-            Err(e) => Ok(answered::<u8>(Err(e), ends)),
+            Ok(bytes) => Ok(status_and_line(write_all(&mut ends.sink, bytes.as_slice()), ends)),
+            Err(e) => Ok(status_and_line::<u8>(Err(e), ends)),
         },
     }
 }

@@ -78,7 +78,7 @@ fn is_told<M: Json>(alloc: Global, read: Result<M, ProtoError>, text: &str) -> A
 }
 
 // The encrypted keyset of ENCRYPTED, of values.
-fn encrypted(alloc: Global) -> Result<EncryptedKeyset, ProtoError> {
+fn make_encrypted(alloc: Global) -> Result<EncryptedKeyset, ProtoError> {
     let info = KeyInfo {
         type_url: Text::from_str(alloc, "a\"b")?,
         status: 7,
@@ -107,9 +107,9 @@ enum Asked {
     WriteEncrypted,
 }
 
-fn answered(alloc: Global, asked: &Asked, text: &str, bytes: &[u8]) -> Answer {
+fn answer_row(alloc: Global, asked: &Asked, text: &str, bytes: &[u8]) -> Answer {
     match asked {
-        Asked::Made => is_told(alloc, encrypted(alloc), text),
+        Asked::Made => is_told(alloc, make_encrypted(alloc), text),
         Asked::Read => is_read(alloc, keyset_of(alloc, text.as_bytes()), bytes),
         Asked::Write => is_told(alloc, Keyset::decode(alloc, bytes), text),
         Asked::ReadEncrypted => {
@@ -282,7 +282,7 @@ const TEXTS: &[(Asked, &str, &[u8], Answer)] = &[
 fn texts_are_read_and_written(rt: HostRuntime) {
     let alloc = rt.alloc();
     for (asked, text, bytes, want) in TEXTS {
-        expect(&rt, answered(alloc, asked, text, bytes), *want, text);
+        expect(&rt, answer_row(alloc, asked, text, bytes), *want, text);
     }
     let not_utf_8 = is_read(alloc, keyset_of(alloc, b"{\"other\":\"\xff\"}"), b"");
     expect(&rt, not_utf_8, REFUSED, "bytes that are not UTF-8");

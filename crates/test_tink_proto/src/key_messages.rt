@@ -496,7 +496,7 @@ enum Of {
     Valued(Valued),
 }
 
-fn answered(alloc: Global, of: &Of, bytes: &[u8]) -> Answer {
+fn answer_row(alloc: Global, of: &Of, bytes: &[u8]) -> Answer {
     match of {
         Of::Outside(of) => holds_key(alloc, of, bytes),
         Of::Version => is_of_version_2(alloc, bytes),
@@ -682,6 +682,6 @@ const ROWS: &[(&str, Of, &[u8])] = &[
 #[test]
 fn messages_of_keys(rt: HostRuntime) {
     for (row, of, bytes) in ROWS {
-        expect(&rt, answered(rt.alloc(), of, bytes), Ok(true), row);
+        expect(&rt, answer_row(rt.alloc(), of, bytes), Ok(true), row);
     }
 }

@@ -170,7 +170,7 @@ enum Asked {
     Encrypted,
 }
 
-fn answered(alloc: Global, asked: &Asked, bytes: &[u8], want: &[u8]) -> Answer {
+fn answer_row(alloc: Global, asked: &Asked, bytes: &[u8], want: &[u8]) -> Answer {
     match asked {
         Asked::Made => is_negative_written(alloc, want),
         Asked::Read(of) => is_read(alloc, of, bytes),
@@ -374,7 +374,12 @@ const ROWS: &[(&str, Asked, &[u8], &[u8], Answer)] = &[
 #[test]
 fn messages_are_read_and_written(rt: HostRuntime) {
     for (row, asked, bytes, want, answer) in ROWS {
-        expect(&rt, answered(rt.alloc(), asked, bytes, want), *answer, row);
+        expect(
+            &rt,
+            answer_row(rt.alloc(), asked, bytes, want),
+            *answer,
+            row,
+        );
     }
 }
 

@@ -2,7 +2,7 @@
 
 use crate::large_callers::segments_of;
 use std::alloc::Global;
-use test_util::{Told, draws_of, kind_of};
+use test_util::{Verdict, draws_of, kind_of};
 use tink_io::{Draws, Kind, TinkError};
 use tink_large::{Measured, lines, measure};
 
@@ -37,7 +37,7 @@ fn are(count: Result<u64, TinkError>, want: u64) -> Result<bool, TinkError> {
     }
 }
 
-fn answered(alloc: Global, n: u32, draws: &mut Draws, asked: &Asked) -> Result<bool, TinkError> {
+fn answer_row(alloc: Global, n: u32, draws: &mut Draws, asked: &Asked) -> Result<bool, TinkError> {
     match asked {
         Asked::Lines(want) => has_lines(alloc, measure(alloc, n, draws), want),
         Asked::Leaves(kind, left) => {
@@ -49,7 +49,7 @@ fn answered(alloc: Global, n: u32, draws: &mut Draws, asked: &Asked) -> Result<b
 
 fn holds(alloc: Global, n: u32, draws: &[u8], asked: &Asked) -> Result<bool, TinkError> {
     match draws_of(alloc, draws) {
-        Ok(mut draws) => answered(alloc, n, &mut draws, asked),
+        Ok(mut draws) => answer_row(alloc, n, &mut draws, asked),
         Err(e) => Err(e),
     }
 }
@@ -136,8 +136,8 @@ const ROWS: &[(&str, u32, &[u8], Asked)] = &[
     ),
 ];
 
-pub fn texts_are_measured(alloc: Global, told: &mut Told) {
+pub fn texts_are_measured(alloc: Global, verdict: &mut Verdict) {
     for (row, n, draws, asked) in ROWS {
-        told.expect(holds(alloc, *n, draws, asked), Ok(true), row);
+        verdict.expect(holds(alloc, *n, draws, asked), Ok(true), row);
     }
 }

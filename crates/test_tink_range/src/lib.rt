@@ -9,12 +9,12 @@ mod range_tests;
 mod support;
 
 use std::alloc::Global;
-use test_util::Told;
+use test_util::Verdict;
 
 /// What all rows tell.
-pub fn rows(alloc: Global) -> Told {
-    let mut told = Told::new();
-    large_tests::texts_are_measured(alloc, &mut told);
-    range_tests::a_range_is_a_slice_or_refused(alloc, &mut told);
-    told
+pub fn rows(alloc: Global) -> Verdict {
+    let mut verdict = Verdict::new();
+    large_tests::texts_are_measured(alloc, &mut verdict);
+    range_tests::a_range_is_a_slice_or_refused(alloc, &mut verdict);
+    verdict
 }

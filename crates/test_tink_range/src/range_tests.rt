@@ -6,7 +6,7 @@ use crate::support::{Keys, Object, aeads_of, object_of, sink_of, text_of};
 use std::alloc::Global;
 use std::marker::Brand;
 use std::sync::ledger::{Blank, Ledger};
-use test_util::{Told, kind_of};
+use test_util::{Verdict, kind_of};
 use tink_io::{Kind, TinkError};
 use tink_range::{MemAt, RangeReader, Steps};
 use tink_streaming_aead::WrappedStreamingAead;
@@ -79,7 +79,7 @@ fn gives<L: Ledger>(
     Ok((bytes.first().copied(), bytes.len(), kind_of(answer)) == want)
 }
 
-fn answered<L: Ledger>(
+fn answer_row<L: Ledger>(
     alloc: Global,
     reader: &mut RangeReader<MemAt>,
     count: usize,
@@ -117,7 +117,7 @@ fn answered_by<L: Ledger>(
 {
     let mut steps = Steps::<L>::new(blank);
     match RangeReader::new(alloc, aeads, object, b"data", &mut steps) {
-        Ok(mut reader) => answered(alloc, &mut reader, count, asked, &mut steps),
+        Ok(mut reader) => answer_row(alloc, &mut reader, count, asked, &mut steps),
         Err(refused) => refused_by(refused.error, asked),
     }
 }
@@ -296,10 +296,10 @@ const FAILING: &[Row] = &[
 
 const TABLES: &[&[Row]] = &[EACH, OF_LARGE, FAILING];
 
-pub fn a_range_is_a_slice_or_refused(alloc: Global, told: &mut Told) {
+pub fn a_range_is_a_slice_or_refused(alloc: Global, verdict: &mut Verdict) {
     for rows in TABLES {
         for (row, keys, count, object, asked) in *rows {
-            told.expect(holds(alloc, keys, *count, object, asked), Ok(true), row);
+            verdict.expect(holds(alloc, keys, *count, object, asked), Ok(true), row);
         }
     }
 }

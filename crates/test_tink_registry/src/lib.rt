@@ -7,13 +7,13 @@ mod registry_tests;
 mod stream_tests;
 
 use std::alloc::Global;
-use test_util::Told;
+use test_util::Verdict;
 
 /// What all rows tell.
-pub fn rows(alloc: Global) -> Told {
-    let mut told = Told::new();
-    primitive_tests::rows(alloc, &mut told);
-    registry_tests::rows(alloc, &mut told);
-    stream_tests::rows(alloc, &mut told);
-    told
+pub fn rows(alloc: Global) -> Verdict {
+    let mut verdict = Verdict::new();
+    primitive_tests::rows(alloc, &mut verdict);
+    registry_tests::rows(alloc, &mut verdict);
+    stream_tests::rows(alloc, &mut verdict);
+    verdict
 }

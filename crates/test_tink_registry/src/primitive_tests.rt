@@ -1,12 +1,12 @@
 //! Each conversion of a primitive.
 
 ghost use Rattle.std.specs.Prelude.{◌≡◌, [], Ok};
-ghost use Rattle.tink_io.specs.Told.{Replies};
+ghost use Rattle.tink_io.specs.Answering.{Replies};
 ghost use Rattle.tink_primitives.specs.Sorts.{as_aead};
 
 use crate::plain::{Plain, Plains};
 use std::alloc::Global;
-use test_util::{Answer, Ask, Told, gives, made};
+use test_util::{Answer, Ask, Verdict, gives, succeeds};
 use tink_io::{Draws, Kind, TinkError};
 use tink_primitives::{Aead, CloneIn, Kinds, Primitive};
 use tink_proto::Bytes;
@@ -61,11 +61,11 @@ fn primitive(of: &Name) -> Primitive<Plains> {
 }
 
 fn picked_by<S: Sort<Plains>>(p: Primitive<Plains>) -> Result<bool, TinkError> {
-    made(S::pick(p))
+    succeeds(S::pick(p))
 }
 
 // Whether the conversion to a sort hands the primitive out.
-fn picked(alloc: Global, p: Primitive<Plains>, sort: &Name) -> Result<bool, TinkError> {
+fn pick_by_name(alloc: Global, p: Primitive<Plains>, sort: &Name) -> Result<bool, TinkError> {
     match *sort {
         Name::Aead => picked_by::<Aeads>(p),
         Name::DeterministicAead => picked_by::<DeterministicAeads>(p),
@@ -85,7 +85,7 @@ fn picked(alloc: Global, p: Primitive<Plains>, sort: &Name) -> Result<bool, Tink
 
 fn copy_picked(alloc: Global, p: &Primitive<Plains>, sort: &Name) -> Result<bool, TinkError> {
     match p.try_clone(alloc) {
-        Ok(copy) => picked(alloc, copy, sort),
+        Ok(copy) => pick_by_name(alloc, copy, sort),
         Err(e) => Err(e),
     }
 }
@@ -98,7 +98,7 @@ impl Ask<bool> for As {
         if *of_copy {
             copy_picked(alloc, &primitive(&self.0), &self.1)
         } else {
-            picked(alloc, primitive(&self.0), &self.1)
+            pick_by_name(alloc, primitive(&self.0), &self.1)
         }
     }
 }
@@ -182,12 +182,12 @@ const CONVERSIONS: &[(&str, As, Answer)] = &[
     ),
 ];
 
-fn conversions(alloc: Global, told: &mut Told, of_copy: bool) {
-    told.walk(alloc, of_copy, CONVERSIONS);
+fn conversions(alloc: Global, verdict: &mut Verdict, of_copy: bool) {
+    verdict.walk(alloc, of_copy, CONVERSIONS);
 }
 
 /// A primitive and its copy.
-pub fn rows(alloc: Global, told: &mut Told) {
-    conversions(alloc, told, false);
-    conversions(alloc, told, true);
+pub fn rows(alloc: Global, verdict: &mut Verdict) {
+    conversions(alloc, verdict, false);
+    conversions(alloc, verdict, true);
 }

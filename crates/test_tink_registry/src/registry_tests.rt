@@ -1,13 +1,13 @@
 //! A registry of managers of test keys.
 
 ghost use Rattle.std.specs.Prelude.{◌≡◌, Some};
-ghost use Rattle.tink_io.specs.Told.{Answers};
+ghost use Rattle.tink_io.specs.Answering.{Answers};
 ghost use Rattle.tink_registry.specs.Listed.{manager_of};
 
 use std::alloc::Global;
 use test_util::{
-    Answer, Ask, TestAead, TestKinds, TestManager, Told, URL, asked, draws_of, gives, made,
-    template,
+    Answer, Ask, TestAead, TestKinds, TestManager, URL, Verdict, ask_made, draws_of, gives,
+    succeeds, template,
 };
 use tink_io::{Draws, Kind, TinkError};
 use tink_primitives::{Aead, Primitive};
@@ -150,7 +150,7 @@ fn is_said(
                     & (manager.key_material_type() == KeyMaterialType::Symmetric)
                     & !manager.supports_private_keys(),
             ),
-            Said::Public => made(manager.public_key_data(alloc, &[7; 16])),
+            Said::Public => succeeds(manager.public_key_data(alloc, &[7; 16])),
         },
         Err(e) => Err(e),
     }
@@ -242,7 +242,7 @@ fn makes_by(
 ) -> Result<bool, TinkError> {
     match *of {
         Made::Key => gives(registry.new_key(alloc, kt, draws), &[b'7'; 16]),
-        Made::Data => asked(alloc, registry.new_key_data(alloc, kt, draws), &Sevens),
+        Made::Data => ask_made(alloc, registry.new_key_data(alloc, kt, draws), &Sevens),
         Made::Sealing(want) => {
             let built = new_primitive(alloc, registry, kt, draws);
             gives(sealed_by(alloc, built, draws), want)
@@ -295,7 +295,7 @@ fn is_beside(alloc: Global, of: &mut World, added: &Added) -> bool {
 impl Ask<World> for Step {
     fn answer(&self, alloc: Global, of: &mut World) -> Result<bool, TinkError> {
         match *self {
-            Step::Register(ref added) => made(register(alloc, &mut of.registry, added)),
+            Step::Register(ref added) => succeeds(register(alloc, &mut of.registry, added)),
             Step::Alone(ref added) => Ok(is_whole(alloc, of, added)),
             Step::Beside(ref added) => Ok(is_beside(alloc, of, added)),
             Step::Taken(n) => Ok(n <= of.taken),
@@ -310,7 +310,7 @@ impl Ask<World> for Step {
             Step::HasBoth(name, wanted) => Ok(has(&of.registry, name, wanted)),
             Step::Makes(url, ref what) => makes(alloc, of, url, what),
             Step::Left(n) => Ok(of.draws.left() == n),
-            Step::FindsAndBuilds(url, key) => made(aead_of(built_by(
+            Step::FindsAndBuilds(url, key) => succeeds(aead_of(built_by(
                 &of.registry,
                 alloc,
                 url,
@@ -488,7 +488,7 @@ fn new_world(alloc: Global, draws: &[u8]) -> Result<World, TinkError> {
     }
 }
 
-pub fn rows(alloc: Global, told: &mut Told) {
-    told.walk_made(alloc, new_world(alloc, DRAWS), "the draws", STEPS);
-    told.walk_made(alloc, new_world(alloc, b""), "the draws", TRIED);
+pub fn rows(alloc: Global, verdict: &mut Verdict) {
+    verdict.walk_made(alloc, new_world(alloc, DRAWS), "the draws", STEPS);
+    verdict.walk_made(alloc, new_world(alloc, b""), "the draws", TRIED);
 }

@@ -4,7 +4,7 @@ ghost use Rattle.std.specs.Prelude.{[]};
 ghost use Rattle.std.proofs.Common.{refl};
 
 use std::alloc::Global;
-use test_util::{Answer, Ask, Told};
+use test_util::{Answer, Ask, Verdict};
 use tink_io::{Draws, Kind, Sink, Source, SureSink, SureSource, TinkError};
 use tink_primitives::{DecryptingRead, EncryptingWrite, Refused, StreamingAead};
 
@@ -106,7 +106,7 @@ fn bytes_by(writing: Writing) -> Result<Vec<u8>, TinkError> {
 }
 
 // Those of a writer to a sink with room for eight bytes.
-fn written(alloc: Global, additional_data: &[u8]) -> Result<Vec<u8>, TinkError> {
+fn written_stream(alloc: Global, additional_data: &[u8]) -> Result<Vec<u8>, TinkError> {
     let mut sink = SureSink::new(alloc);
     match sink.reserve(alloc, 8) {
         Ok(()) => bytes_by(<Copying as StreamingAead<SureSource, SureSink>>::new_encrypting_writer(
@@ -166,7 +166,7 @@ struct Copied(&'static [u8], &'static [u8], &'static [u8]);
 
 impl Ask<()> for Copied {
     fn answer(&self, alloc: Global, _of: &mut ()) -> Result<bool, TinkError> {
-        read_of(alloc, written(alloc, self.0), self.1, self.2)
+        read_of(alloc, written_stream(alloc, self.0), self.1, self.2)
     }
 }
 
@@ -180,6 +180,6 @@ const ROWS: &[(&str, Copied, Answer)] = &[
     ("a writer with data", Copied(b"x", b"", b""), DATA),
 ];
 
-pub fn rows(alloc: Global, told: &mut Told) {
-    told.walk(alloc, (), ROWS);
+pub fn rows(alloc: Global, verdict: &mut Verdict) {
+    verdict.walk(alloc, (), ROWS);
 }

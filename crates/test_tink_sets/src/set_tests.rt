@@ -6,7 +6,7 @@ ghost use Rattle.tink_sets.specs.Entries.{entry_of, prefix_of};
 
 use std::alloc::Global;
 use std::collections::BTreeMap;
-use test_util::{Answer, Ask, TestAead, TestKinds, Told, asked, gives, made};
+use test_util::{Answer, Ask, TestAead, TestKinds, Verdict, ask_made, gives, succeeds};
 use tink_io::{Kind, TinkError};
 use tink_primitives::{KeyId, Kinds, Never, Primitive};
 use tink_proto::{Bytes, Key, KeyStatusType, OutputPrefixType};
@@ -17,14 +17,14 @@ use tink_sets::cryptofmt::{
 use tink_sets::{Entry, PrimitiveSet, TypedPrimitiveSet};
 
 // An AEAD that is known by the one byte of its key.
-fn numbered(alloc: Global, number: u8) -> Result<TestAead, TinkError> {
+fn aead_of_number(alloc: Global, number: u8) -> Result<TestAead, TinkError> {
     Ok(TestAead {
         key: Bytes::from_slice(alloc, &[number])?,
     })
 }
 
 fn aead(alloc: Global, number: u8) -> Result<Primitive<TestKinds>, TinkError> {
-    Ok(Primitive::Aead(numbered(alloc, number)?))
+    Ok(Primitive::Aead(aead_of_number(alloc, number)?))
 }
 
 fn key_of(prefix: OutputPrefixType, status: i32) -> Key {
@@ -46,11 +46,11 @@ fn set_of_one<K: Kinds>(
 {
     let mut set = PrimitiveSet::new(alloc);
     let put = set.put(alloc, p, key);
-    kept(set, put)
+    value_if_ok(set, put)
 }
 
 // A value after a call of it that was Ok. Generic in the value, which is then let go in one step.
-fn kept<A: Drop>(value: A, told: Result<(), TinkError>) -> Result<A, TinkError>
+fn value_if_ok<A: Drop>(value: A, told: Result<(), TinkError>) -> Result<A, TinkError>
     ensures { IfOk result (λ kept. (told ≡ Ok tt) × (kept ≡ value)) }
 {
     match told {
@@ -146,7 +146,7 @@ fn add_by(
     key: &Key,
 ) -> Result<bool, TinkError> {
     match entry.0 {
-        How::Put => made(set.put(alloc, p, key)),
+        How::Put => succeeds(set.put(alloc, p, key)),
         How::Lend => is_numbered(set.add(alloc, p, key), entry.1),
         How::Id => is_id(added_id(alloc, set, p, key)),
     }
@@ -199,7 +199,7 @@ impl Ask<PrimitiveSet<TestKinds>> for Step {
             Step::Both(ref raw, ref tink) => Ok(both(alloc, set, raw, tink)),
             Step::Hold(n) => Ok(n <= set.raw_entries().len().wrapping_add(tinks(set))),
             Step::Raws(ref raws) => raws.answer(alloc, set),
-            Step::CopiedRaws(ref raws) => asked(alloc, set.try_clone(alloc), raws),
+            Step::CopiedRaws(ref raws) => ask_made(alloc, set.try_clone(alloc), raws),
             Step::Count(prefix, n) => Ok(set.entries_for_prefix(prefix).len() == n),
             Step::Prefix(prefix, want) => gives(output_prefix(alloc, &key_of(prefix, 1)), want),
             Step::Constants => Ok(are_constants()),
@@ -358,7 +358,7 @@ fn set_of_seven(alloc: Global) -> Result<PrimitiveSet<TestKinds>, TinkError> {
 
 // A set whose primary entry is a streaming AEAD, and that has no other one.
 fn set_of_a_primary(alloc: Global) -> Result<PrimitiveSet<TestKinds>, TinkError> {
-    let primitive = Primitive::StreamingAead(numbered(alloc, 1)?);
+    let primitive = Primitive::StreamingAead(aead_of_number(alloc, 1)?);
     Ok(PrimitiveSet {
         primary: Some(Entry {
             key_id: 5,
@@ -433,7 +433,7 @@ impl Ask<TypedPrimitiveSet<TestAead>> for CopiedSeven {
         alloc: Global,
         typed: &mut TypedPrimitiveSet<TestAead>,
     ) -> Result<bool, TinkError> {
-        asked(alloc, typed.try_clone(alloc), &Seven)
+        ask_made(alloc, typed.try_clone(alloc), &Seven)
     }
 }
 
@@ -457,17 +457,17 @@ fn others(
 // Whether the set is one of the sort.
 fn is_of(alloc: Global, set: PrimitiveSet<TestKinds>, sort: &Sorted) -> Result<bool, TinkError> {
     match *sort {
-        Sorted::Aeads => made(TypedPrimitiveSet::from_set_aead(alloc, set)),
-        Sorted::StreamingAeads => made(TypedPrimitiveSet::from_set_streaming_aead(alloc, set)),
-        Sorted::Sevens => asked(alloc, TypedPrimitiveSet::from_set_aead(alloc, set), &Seven),
+        Sorted::Aeads => succeeds(TypedPrimitiveSet::from_set_aead(alloc, set)),
+        Sorted::StreamingAeads => succeeds(TypedPrimitiveSet::from_set_streaming_aead(alloc, set)),
+        Sorted::Sevens => ask_made(alloc, TypedPrimitiveSet::from_set_aead(alloc, set), &Seven),
         Sorted::CopiedSevens => {
-            asked(
+            ask_made(
                 alloc,
                 TypedPrimitiveSet::from_set_aead(alloc, set),
                 &CopiedSeven,
             )
         }
-        Sorted::Other(ref sort) => made(others(alloc, set, sort)),
+        Sorted::Other(ref sort) => succeeds(others(alloc, set, sort)),
     }
 }
 
@@ -553,12 +553,12 @@ const SORTS: &[(&str, Of, Answer)] = &[
     ),
 ];
 
-fn sorts(alloc: Global, told: &mut Told) {
-    told.walk(alloc, (), SORTS);
+fn sorts(alloc: Global, verdict: &mut Verdict) {
+    verdict.walk(alloc, (), SORTS);
 }
 
-pub fn rows(alloc: Global, told: &mut Told) {
-    told.walk(alloc, PrimitiveSet::new(alloc), STEPS);
-    told.walk(alloc, PrimitiveSet::new(alloc), ENTRIES);
-    sorts(alloc, told);
+pub fn rows(alloc: Global, verdict: &mut Verdict) {
+    verdict.walk(alloc, PrimitiveSet::new(alloc), STEPS);
+    verdict.walk(alloc, PrimitiveSet::new(alloc), ENTRIES);
+    sorts(alloc, verdict);
 }

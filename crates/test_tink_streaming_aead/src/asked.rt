@@ -1,6 +1,6 @@
 //! What is asked of the keys of a keyset, and the one answer.
 
-use crate::streams::{PIECES, Way, flipped, gives, reader_by, written};
+use crate::streams::{PIECES, Way, encrypt_text, flip_bit, gives, reader_by};
 use std::alloc::Global;
 use tink_io::{Kind, MemSource, TinkError};
 use tink_streaming_aead::{DecryptReader, WrappedStreamingAead};
@@ -81,7 +81,7 @@ fn reads(
     match reader_by(
         alloc,
         aeads,
-        flipped(alloc, stream, asked.changed),
+        flip_bit(alloc, stream, asked.changed),
         asked.fails,
     ) {
         Ok(mut reader) => Ok(gives_twice(&mut reader, text, asked)),
@@ -97,7 +97,7 @@ fn is_front(
     text: &[u8],
     closed: usize,
 ) -> Result<bool, TinkError> {
-    match written(alloc, aeads, text, &PIECES) {
+    match encrypt_text(alloc, aeads, text, &PIECES) {
         Ok(whole) => Ok(whole.starts_with(stream) & (whole.len() == closed)),
         Err(e) => Err(e),
     }
@@ -128,7 +128,7 @@ fn seals(
     back: &[u8],
     asked: &Sealing,
 ) -> Result<bool, TinkError> {
-    match written(alloc, aeads, text, &asked.way) {
+    match encrypt_text(alloc, aeads, text, &asked.way) {
         Ok(stream) => is_sealed(alloc, aeads, &stream, text, back, asked),
         Err(e) => Err(e),
     }
@@ -147,7 +147,7 @@ fn seals_long(
 }
 
 /// Whether the keys of a keyset do what is asked.
-pub fn answered(
+pub fn answer_row(
     alloc: Global,
     aeads: &WrappedStreamingAead,
     asked: &Asked,

@@ -10,11 +10,11 @@ mod streams;
 mod tests;
 
 use std::alloc::Global;
-use test_util::Told;
+use test_util::Verdict;
 
 /// What all rows tell.
-pub fn rows(alloc: Global) -> Told {
-    let mut told = Told::new();
-    tests::rows(alloc, &mut told);
-    told
+pub fn rows(alloc: Global) -> Verdict {
+    let mut verdict = Verdict::new();
+    tests::rows(alloc, &mut verdict);
+    verdict
 }

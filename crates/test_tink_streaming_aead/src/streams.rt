@@ -67,7 +67,7 @@ fn write_into(
 }
 
 /// What stands in a sink, with room for 9,000 bytes, of which a call takes ten, after a text was written by the primary key.
-pub fn written(
+pub fn encrypt_text(
     alloc: Global,
     aeads: &WrappedStreamingAead,
     text: &[u8],
@@ -83,7 +83,7 @@ pub fn written(
 }
 
 /// A stream with one byte changed, if it has one in that place.
-pub fn flipped(alloc: Global, stream: &[u8], place: usize) -> Result<Vec<u8>, AllocError> {
+pub fn flip_bit(alloc: Global, stream: &[u8], place: usize) -> Result<Vec<u8>, AllocError> {
     let mut bytes = stream.to_vec(alloc)?;
     if let Some(byte) = bytes.get_mut(place) {
         *byte ^= 1;

@@ -1,11 +1,11 @@
 //! The rows.
 
-use crate::asked::{Asked, BY_GCM, Reading, Sealing, WHOLE, answered};
+use crate::asked::{Asked, BY_GCM, Reading, Sealing, WHOLE, answer_row};
 use crate::keysets::{Keys, LEGACY, RAW, TINK, aeads_of};
 use crate::one_of::Streams;
 use crate::streams::{AT_ONCE, DROPPED, PIECES};
 use std::alloc::Global;
-use test_util::{Answer, Ask, Told};
+use test_util::{Answer, Ask, Verdict};
 use tink_io::{Cause, Kind, TinkError};
 use tink_proto::OutputPrefixType;
 use tink_registry::Registry;
@@ -21,7 +21,7 @@ struct Of(Keys, Asked);
 impl Ask<Registry<Streams>> for Of {
     fn answer(&self, alloc: Global, registry: &mut Registry<Streams>) -> Result<bool, TinkError> {
         match aeads_of(alloc, registry, &self.0) {
-            Ok(aeads) => answered(alloc, &aeads, &self.1),
+            Ok(aeads) => answer_row(alloc, &aeads, &self.1),
             Err(e) => Err(e),
         }
     }
@@ -383,11 +383,11 @@ fn registry(alloc: Global) -> Result<Registry<Streams>, TinkError> {
     }
 }
 
-fn new_keys(alloc: Global, told: &mut Told) {
-    told.walk_made(alloc, registry(alloc), "the registry", NEW_KEYS);
+fn new_keys(alloc: Global, verdict: &mut Verdict) {
+    verdict.walk_made(alloc, registry(alloc), "the registry", NEW_KEYS);
 }
 
-pub fn rows(alloc: Global, told: &mut Told) {
-    told.walk_made(alloc, registry(alloc), "the registry", ROWS);
-    new_keys(alloc, told);
+pub fn rows(alloc: Global, verdict: &mut Verdict) {
+    verdict.walk_made(alloc, registry(alloc), "the registry", ROWS);
+    new_keys(alloc, verdict);
 }

@@ -3,7 +3,7 @@
 ghost use Rattle.std.specs.Prelude.{◌≡◌, vec_len};
 
 use std::alloc::Global;
-use test_util::{Told, sink_of};
+use test_util::{Verdict, sink_of};
 use tink_io::{SureSink, SureSource, TinkError, write_all};
 use tink_streaming_ciphers::{GcmSegment, StreamSegment};
 use tink_streaming_io::{
@@ -60,7 +60,7 @@ fn opener(prefix: Vec<u8>) -> Opener<StreamSegment>
 fn writer(alloc: Global) -> Result<SegmentWriter<StreamSegment>, TinkError> {
     let prefix = PREFIX.to_vec(alloc)?;
     match WriterBuffers::reserve(alloc, 36, 12) {
-        Ok(buffers) => Ok(SegmentWriter::made(sealer(prefix), buffers)),
+        Ok(buffers) => Ok(SegmentWriter::from_parts(sealer(prefix), buffers)),
         Err(e) => Err(e),
     }
 }
@@ -103,7 +103,7 @@ fn reader(alloc: Global) -> Result<SureReader, TinkError> {
     let prefix = PREFIX.to_vec(alloc)?;
     match Buffers::reserve(alloc, 36, 12) {
         Ok(buffers) => {
-            let reader = SegmentReader::made(opener(prefix), buffers, 0);
+            let reader = SegmentReader::from_parts(opener(prefix), buffers, 0);
             Ok(Reader::over(SureSource::new(stream), reader))
         }
         Err(e) => Err(e),
@@ -141,7 +141,7 @@ fn is_opened(alloc: Global) -> Result<bool, TinkError> {
     }
 }
 
-pub fn writers_and_readers_take_either_kind(alloc: Global, told: &mut Told) {
-    told.expect(is_sealed(alloc), Ok(true), "the stream");
-    told.expect(is_opened(alloc), Ok(true), "the text");
+pub fn writers_and_readers_take_either_kind(alloc: Global, verdict: &mut Verdict) {
+    verdict.expect(is_sealed(alloc), Ok(true), "the stream");
+    verdict.expect(is_opened(alloc), Ok(true), "the text");
 }

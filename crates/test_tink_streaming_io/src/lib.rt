@@ -12,19 +12,19 @@ mod segment_tests;
 mod writer_tests;
 
 use std::alloc::Global;
-use test_util::Told;
+use test_util::Verdict;
 
 /// What all rows tell.
-pub fn rows(alloc: Global) -> Told {
-    let mut told = Told::new();
-    segment_tests::segments_are_made_and_opened_by_gcm(alloc, &mut told);
-    segment_tests::segments_are_made_and_opened_in_counter_mode(alloc, &mut told);
-    segment_tests::segments_are_made_in_memory_and_in_place(alloc, &mut told);
-    nonce_tests::limits_are_those_of_the_rows(alloc, &mut told);
-    writer_tests::writers_answer_as_the_rows_say(alloc, &mut told);
-    reader_tests::readers_give_the_text(alloc, &mut told);
-    reader_tests::readers_refuse_what_is_changed(alloc, &mut told);
-    reader_tests::readers_refuse_what_is_cut_or_small(alloc, &mut told);
-    kind_tests::writers_and_readers_take_either_kind(alloc, &mut told);
-    told
+pub fn rows(alloc: Global) -> Verdict {
+    let mut verdict = Verdict::new();
+    segment_tests::segments_are_made_and_opened_by_gcm(alloc, &mut verdict);
+    segment_tests::segments_are_made_and_opened_in_counter_mode(alloc, &mut verdict);
+    segment_tests::segments_are_made_in_memory_and_in_place(alloc, &mut verdict);
+    nonce_tests::limits_are_those_of_the_rows(alloc, &mut verdict);
+    writer_tests::writers_answer_as_the_rows_say(alloc, &mut verdict);
+    reader_tests::readers_give_the_text(alloc, &mut verdict);
+    reader_tests::readers_refuse_what_is_changed(alloc, &mut verdict);
+    reader_tests::readers_refuse_what_is_cut_or_small(alloc, &mut verdict);
+    kind_tests::writers_and_readers_take_either_kind(alloc, &mut verdict);
+    verdict
 }

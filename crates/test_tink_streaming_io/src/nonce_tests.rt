@@ -1,7 +1,7 @@
 //! The limits of keys and nonces.
 
 use std::alloc::Global;
-use test_util::{Answer, Ask, Told};
+use test_util::{Answer, Ask, Verdict};
 use tink_io::{Kind, TinkError};
 use tink_streaming_ciphers::{
     AES_CTR_HMAC_NONCE_PREFIX_SIZE_IN_BYTES, AES_GCM_HKDF_NONCE_PREFIX_SIZE_IN_BYTES,
@@ -93,6 +93,6 @@ const ROWS: &[(&str, Asked, Answer)] = &[
     ("prefixes", Asked::Prefixes(7), Ok(true)),
 ];
 
-pub fn limits_are_those_of_the_rows(alloc: Global, told: &mut Told) {
-    told.walk(alloc, (), ROWS);
+pub fn limits_are_those_of_the_rows(alloc: Global, verdict: &mut Verdict) {
+    verdict.walk(alloc, (), ROWS);
 }

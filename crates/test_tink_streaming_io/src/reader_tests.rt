@@ -2,7 +2,7 @@
 
 use hash_keys::Hash;
 use std::alloc::Global;
-use test_util::{Answer, Ask, Told};
+use test_util::{Answer, Ask, Verdict};
 use tink_io::{Cause, Kind, MemSource, TinkError};
 use tink_streaming_ciphers::CtrHmacSegment;
 use tink_streaming_io::{Buffers, Reader, ReaderParams};
@@ -27,7 +27,7 @@ fn source(alloc: Global, (bytes, piece, fails): Given) -> Result<MemSource, Tink
 }
 
 // A reader of such a source, with segments and an offset of these sizes. Nonces have 16 bytes, or 11.
-fn sized(
+fn reader_of(
     alloc: Global,
     given: Given,
     (is_short, size, offset): (bool, u32, u32),
@@ -87,7 +87,7 @@ struct Asked((bool, u32, u32), Given, &'static [Read]);
 impl Ask<()> for Asked {
     // Why no reader is made, or whether the reads have their answers.
     fn answer(&self, alloc: Global, _of: &mut ()) -> Result<bool, TinkError> {
-        match sized(alloc, self.1, self.0) {
+        match reader_of(alloc, self.1, self.0) {
             Ok(mut reader) => Ok(follows(&mut reader, self.2)),
             Err(e) => Err(e),
         }
@@ -417,15 +417,15 @@ const MADE_ROWS: &[(&str, Asked, Answer)] = &[
     ("11, 0", Asked((false, 11, 0), NO_BYTES, &[]), Ok(true)),
 ];
 
-pub fn readers_give_the_text(alloc: Global, told: &mut Told) {
-    told.walk(alloc, (), OPENED_ROWS);
+pub fn readers_give_the_text(alloc: Global, verdict: &mut Verdict) {
+    verdict.walk(alloc, (), OPENED_ROWS);
 }
 
-pub fn readers_refuse_what_is_changed(alloc: Global, told: &mut Told) {
-    told.walk(alloc, (), CHANGED_ROWS);
+pub fn readers_refuse_what_is_changed(alloc: Global, verdict: &mut Verdict) {
+    verdict.walk(alloc, (), CHANGED_ROWS);
 }
 
-pub fn readers_refuse_what_is_cut_or_small(alloc: Global, told: &mut Told) {
-    told.walk(alloc, (), CUT_ROWS);
-    told.walk(alloc, (), MADE_ROWS);
+pub fn readers_refuse_what_is_cut_or_small(alloc: Global, verdict: &mut Verdict) {
+    verdict.walk(alloc, (), CUT_ROWS);
+    verdict.walk(alloc, (), MADE_ROWS);
 }

@@ -7,7 +7,7 @@ ghost use Rattle.tink_streaming_ciphers.specs.StreamSegments.{nonce_length_by};
 use crate::segment_callers::{segment_by, segment_by_gcm};
 use hash_keys::Hash;
 use std::alloc::Global;
-use test_util::{Answer, Ask, Told};
+use test_util::{Answer, Ask, Verdict};
 use tink_io::{Kind, TinkError};
 use tink_proto::Bytes;
 use tink_streaming_ciphers::{CtrHmacSegment, GcmSegment, StreamSegment};
@@ -444,14 +444,14 @@ const OWN_ROWS: &[(&str, Asked, Answer)] = &[
     ),
 ];
 
-pub fn segments_are_made_and_opened_by_gcm(alloc: Global, told: &mut Told) {
-    told.walk(alloc, (), GCM_ROWS);
+pub fn segments_are_made_and_opened_by_gcm(alloc: Global, verdict: &mut Verdict) {
+    verdict.walk(alloc, (), GCM_ROWS);
 }
 
-pub fn segments_are_made_and_opened_in_counter_mode(alloc: Global, told: &mut Told) {
-    told.walk(alloc, (), CTR_HMAC_ROWS);
+pub fn segments_are_made_and_opened_in_counter_mode(alloc: Global, verdict: &mut Verdict) {
+    verdict.walk(alloc, (), CTR_HMAC_ROWS);
 }
 
-pub fn segments_are_made_in_memory_and_in_place(alloc: Global, told: &mut Told) {
-    told.walk(alloc, (), OWN_ROWS);
+pub fn segments_are_made_in_memory_and_in_place(alloc: Global, verdict: &mut Verdict) {
+    verdict.walk(alloc, (), OWN_ROWS);
 }

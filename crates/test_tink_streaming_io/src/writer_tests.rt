@@ -39,7 +39,7 @@ enum Made {
 const OPENED: Made = Made::Sized(40, 12);
 
 // A writer to such a sink.
-fn sized(
+fn writer_of(
     alloc: Global,
     fails: &[u32],
     is_short: bool,
@@ -117,7 +117,7 @@ fn count(told: Result<usize, TinkError>) -> Count {
 }
 
 // The answer of a call that takes no bytes.
-fn done(told: Result<(), TinkError>) -> Count {
+fn count_none(told: Result<(), TinkError>) -> Count {
     match told {
         Ok(()) => Ok(0),
         Err(e) => Err(e.kind),
@@ -128,8 +128,8 @@ fn done(told: Result<(), TinkError>) -> Count {
 fn answer(writer: &mut MemWriter, call: &Call) -> Count {
     match *call {
         Call::Write(bytes) => count(writer.write(bytes)),
-        Call::Flush => done(writer.flush()),
-        Call::Close => done(writer.close()),
+        Call::Flush => count_none(writer.flush()),
+        Call::Close => count_none(writer.close()),
         Call::Segments => Ok(writer.segments() as usize),
     }
 }
@@ -157,8 +157,8 @@ impl Ask<()> for Asked {
     // Why no writer is made, or whether the calls have their answers.
     fn answer(&self, alloc: Global, _of: &mut ()) -> Result<bool, TinkError> {
         let made = match self.0 {
-            Made::Sized(size, offset) => sized(alloc, self.1, false, size, offset),
-            Made::ShortNonce(size, offset) => sized(alloc, self.1, true, size, offset),
+            Made::Sized(size, offset) => writer_of(alloc, self.1, false, size, offset),
+            Made::ShortNonce(size, offset) => writer_of(alloc, self.1, true, size, offset),
             Made::AtTheLastNumber => at_the_last_number(alloc, self.1),
         };
         match made {
@@ -169,7 +169,7 @@ impl Ask<()> for Asked {
 }
 
 use Call::{Close, Flush, Segments, Write};
-use test_util::{Answer, Ask, Told};
+use test_util::{Answer, Ask, Verdict};
 
 // The text in pieces of ten bytes.
 const PIECES: &[(Call, Count)] = &[
@@ -318,7 +318,7 @@ const MADE_ROWS: &[(&str, Asked, Answer)] = &[
     ("11, 0", Asked(Made::Sized(11, 0), &[], &[], 0), Ok(true)),
 ];
 
-pub fn writers_answer_as_the_rows_say(alloc: Global, told: &mut Told) {
-    told.walk(alloc, (), SEALED_ROWS);
-    told.walk(alloc, (), MADE_ROWS);
+pub fn writers_answer_as_the_rows_say(alloc: Global, verdict: &mut Verdict) {
+    verdict.walk(alloc, (), SEALED_ROWS);
+    verdict.walk(alloc, (), MADE_ROWS);
 }

@@ -3,7 +3,7 @@
 ghost use Rattle.std.specs.Prelude.{IfOk};
 ghost use Rattle.std.specs.Io.KnownBytes.{Appends};
 ghost use Rattle.stream_model.specs.Key.{front};
-ghost use Rattle.stream_model.specs.Sealing.{prefix_of, salt_of};
+ghost use Rattle.stream_model.specs.Sealing.{nonce_prefix_of, salt_of};
 
 use std::alloc::Global;
 use tink_io::{Draws, Sink};
@@ -21,7 +21,7 @@ pub fn new_stream<K: Sink + Drop>(
     additional_data: &[u8],
 ) -> Result<Writer<K, StreamSegment>, Refused<K>>
     ensures header { IfOk result (λ w. Appends (K.got sink) (K.got w.sink)
-        (front key.now (salt_of key.now draws.old) (prefix_of key.now draws.old))) }
+        (front key.now (salt_of key.now draws.old) (nonce_prefix_of key.now draws.old))) }
 {
     key.new_encrypting_writer(alloc, draws, sink, additional_data)
 }

@@ -1,8 +1,8 @@
 //! Damaged streams of three segments: each is refused by its kind, and what is read before is a prefix of the text.
 
-use crate::streams::{key_of, opens, sealed};
+use crate::streams::{encrypt_in_pieces, key_of, opens};
 use std::alloc::Global;
-use test_util::Told;
+use test_util::Verdict;
 use tink_io::{Kind, TinkError};
 use tink_proto::HashType;
 use tink_streaming_keys::StreamKind;
@@ -87,8 +87,8 @@ fn sample_of(alloc: Global, in_counter_mode: bool) -> Result<Sample, TinkError> 
         (41, BY_GCM)
     };
     let key = key_of(alloc, in_counter_mode, HashType::Sha256, segment)?;
-    let stream = sealed(alloc, &key, &[7; 23], TEXT, 36)?;
-    let other = sealed(alloc, &key, &[8; 23], TEXT, 36)?;
+    let stream = encrypt_in_pieces(alloc, &key, &[7; 23], TEXT, 36)?;
+    let other = encrypt_in_pieces(alloc, &key, &[8; 23], TEXT, 36)?;
     Ok(Sample {
         key,
         layout,
@@ -222,7 +222,7 @@ fn holds(alloc: Global, sample: &Sample, damage: Damage) -> Result<bool, TinkErr
 }
 
 // In counter mode, or by GCM.
-fn answered(alloc: Global, in_counter_mode: bool, damage: Damage) -> Result<bool, TinkError> {
+fn answer_row(alloc: Global, in_counter_mode: bool, damage: Damage) -> Result<bool, TinkError> {
     match sample_of(alloc, in_counter_mode) {
         Ok(sample) => holds(alloc, &sample, damage),
         Err(e) => Err(e),
@@ -240,8 +240,8 @@ const ROWS: &[(&str, bool, Damage)] = &[
     ("orders, by GCM", false, Damage::Orders),
 ];
 
-pub fn no_damage_passes(alloc: Global, told: &mut Told) {
+pub fn no_damage_passes(alloc: Global, verdict: &mut Verdict) {
     for (row, in_counter_mode, damage) in ROWS {
-        told.expect(answered(alloc, *in_counter_mode, *damage), Ok(true), row);
+        verdict.expect(answer_row(alloc, *in_counter_mode, *damage), Ok(true), row);
     }
 }

@@ -43,7 +43,7 @@ enum Asked {
 }
 
 /// The segment of at most 60 bytes of text.
-pub fn made(
+pub fn encrypt_short(
     alloc: Global,
     cipher: &StreamSegment,
     text: &[u8],
@@ -57,7 +57,7 @@ pub fn made(
 }
 
 /// The text of at most 60 bytes of a segment.
-pub fn opened(
+pub fn decrypt_short(
     alloc: Global,
     cipher: &StreamSegment,
     segment: &[u8],
@@ -95,8 +95,8 @@ fn does_at(
         80, 81, 82, 83, 84, 85, 86, 0, 0, 0, number, mark, 0, 0, 0, 0,
     ];
     match asked {
-        Asked::Opens => is(opened(alloc, cipher, segment, &nonce), text),
-        Asked::Makes => is(made(alloc, cipher, text, &nonce), segment),
+        Asked::Opens => is(decrypt_short(alloc, cipher, segment, &nonce), text),
+        Asked::Makes => is(encrypt_short(alloc, cipher, text, &nonce), segment),
     }
 }
 
@@ -146,7 +146,7 @@ type Row = (
 
 use Asked::{Makes, Opens};
 use HashType::{Sha224, Sha256, UnknownHash};
-use test_util::Told;
+use test_util::Verdict;
 
 const ROWS: &[Row] = &[
     ("ctr opens", Opens, true, Sha256, HEADER, b"data", Ok(true)),
@@ -294,7 +294,7 @@ const ROWS: &[Row] = &[
     ),
 ];
 
-fn answered(alloc: Global, row: &Row) -> Result<bool, TinkError> {
+fn answer_row(alloc: Global, row: &Row) -> Result<bool, TinkError> {
     let (_, asked, in_counter_mode, hkdf_alg, header, aad, _) = *row;
     let cipher = cipher_of(alloc, asked, in_counter_mode, hkdf_alg, header, aad)?;
     if in_counter_mode {
@@ -310,8 +310,8 @@ fn answered(alloc: Global, row: &Row) -> Result<bool, TinkError> {
     }
 }
 
-pub fn a_header_gives_its_streams_cipher(alloc: Global, told: &mut Told) {
+pub fn a_header_gives_its_streams_cipher(alloc: Global, verdict: &mut Verdict) {
     for row in ROWS {
-        told.expect(answered(alloc, row), row.6, row.0);
+        verdict.expect(answer_row(alloc, row), row.6, row.0);
     }
 }

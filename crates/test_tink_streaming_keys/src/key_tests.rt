@@ -1,6 +1,6 @@
 //! Which keys of streams are made, and segments that Python made under derived keys.
 
-use crate::header_tests::{is, made, opened};
+use crate::header_tests::{decrypt_short, encrypt_short, is};
 use std::alloc::Global;
 use tink_core::CloneIn;
 use tink_io::{Kind, TinkError};
@@ -58,8 +58,8 @@ fn gcm_key(alloc: Global, hkdf_alg: HashType) -> Result<AesGcmHkdf, TinkError> {
 
 // Whether the text has this segment, which opens to the text.
 fn does(alloc: Global, cipher: &StreamSegment, segment: &[u8]) -> Result<bool, TinkError> {
-    let is_made = is(made(alloc, cipher, TEXT, NONCE), segment)?;
-    Ok(is(opened(alloc, cipher, segment, NONCE), TEXT)? && is_made)
+    let is_made = is(encrypt_short(alloc, cipher, TEXT, NONCE), segment)?;
+    Ok(is(decrypt_short(alloc, cipher, segment, NONCE), TEXT)? && is_made)
 }
 
 // Whether what a copy of a key derives with a salt makes this segment.
@@ -105,7 +105,7 @@ fn main_key(n: usize) -> &'static [u8] {
     MAIN.get(..n).unwrap_or(MAIN)
 }
 
-fn answered(alloc: Global, asked: Asked) -> Result<bool, TinkError> {
+fn answer_row(alloc: Global, asked: Asked) -> Result<bool, TinkError> {
     let sha = HashType::Sha256;
     match asked {
         Asked::Ctr(main, derived, alg, tag, segment) => is_made(AesCtrHmac::new(
@@ -133,7 +133,7 @@ fn answered(alloc: Global, asked: Asked) -> Result<bool, TinkError> {
 }
 
 use HashType::{Sha224, Sha256, Sha384, UnknownHash};
-use test_util::Told;
+use test_util::Verdict;
 
 const ROWS: &[(&str, Asked, Result<bool, Kind>)] = &[
     (
@@ -231,8 +231,8 @@ const ROWS: &[(&str, Asked, Result<bool, Kind>)] = &[
     ("derives a segment by GCM", Asked::GcmSegment(24), Ok(true)),
 ];
 
-pub fn keys_are_made_and_derive(alloc: Global, told: &mut Told) {
+pub fn keys_are_made_and_derive(alloc: Global, verdict: &mut Verdict) {
     for (row, asked, want) in ROWS {
-        told.expect(answered(alloc, *asked), *want, row);
+        verdict.expect(answer_row(alloc, *asked), *want, row);
     }
 }

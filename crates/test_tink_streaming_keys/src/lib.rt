@@ -11,14 +11,14 @@ mod stream_tests;
 mod streams;
 
 use std::alloc::Global;
-use test_util::Told;
+use test_util::Verdict;
 
 /// What all rows tell.
-pub fn rows(alloc: Global) -> Told {
-    let mut told = Told::new();
-    key_tests::keys_are_made_and_derive(alloc, &mut told);
-    header_tests::a_header_gives_its_streams_cipher(alloc, &mut told);
-    stream_tests::streams_are_as_the_rows_say(alloc, &mut told);
-    damage_tests::no_damage_passes(alloc, &mut told);
-    told
+pub fn rows(alloc: Global) -> Verdict {
+    let mut verdict = Verdict::new();
+    key_tests::keys_are_made_and_derive(alloc, &mut verdict);
+    header_tests::a_header_gives_its_streams_cipher(alloc, &mut verdict);
+    stream_tests::streams_are_as_the_rows_say(alloc, &mut verdict);
+    damage_tests::no_damage_passes(alloc, &mut verdict);
+    verdict
 }

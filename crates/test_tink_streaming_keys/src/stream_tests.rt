@@ -2,7 +2,8 @@
 
 use crate::callers::new_stream;
 use crate::streams::{
-    BY_GCM, DRAWS, IN_COUNTER_MODE, MAIN, TEXT, draws, key_of, new_writer, opens, sealed, sink,
+    BY_GCM, DRAWS, IN_COUNTER_MODE, MAIN, TEXT, draws, encrypt_in_pieces, key_of, new_writer,
+    opens, sink,
 };
 use std::alloc::Global;
 use tink_io::{Draws, Kind, TinkError};
@@ -24,7 +25,7 @@ enum Asked {
 }
 
 fn goes_both_ways(alloc: Global, key: &StreamKind, n: usize) -> Result<bool, TinkError> {
-    let stream = sealed(alloc, key, DRAWS, TEXT, 10)?;
+    let stream = encrypt_in_pieces(alloc, key, DRAWS, TEXT, 10)?;
     Ok(opens(alloc, key, &stream, &[], (TEXT, None))? && stream.len() == n)
 }
 
@@ -69,7 +70,7 @@ fn has_header(alloc: Global) -> Result<bool, TinkError> {
 }
 
 fn seals(alloc: Global, key: &StreamKind, stream: &[u8], piece: usize) -> Result<bool, TinkError> {
-    match sealed(alloc, key, DRAWS, TEXT, piece) {
+    match encrypt_in_pieces(alloc, key, DRAWS, TEXT, piece) {
         Ok(told) => Ok(told.as_slice() == stream),
         Err(e) => Err(e),
     }
@@ -90,7 +91,7 @@ fn does(alloc: Global, key: &StreamKind, asked: Asked) -> Result<bool, TinkError
 // What is asked of a key in counter mode, or by GCM, with this hash of HKDF and segments of this size.
 type Row = (&'static str, bool, HashType, u32, Asked);
 
-fn answered(alloc: Global, row: &Row) -> Result<bool, TinkError> {
+fn answer_row(alloc: Global, row: &Row) -> Result<bool, TinkError> {
     let (_, in_counter_mode, hkdf_alg, segment, asked) = *row;
     match key_of(alloc, in_counter_mode, hkdf_alg, segment) {
         Ok(key) => does(alloc, &key, asked),
@@ -100,7 +101,7 @@ fn answered(alloc: Global, row: &Row) -> Result<bool, TinkError> {
 
 use Asked::{Begins, BothWays, Opens, Seals};
 use HashType::{Sha224, Sha256, UnknownHash};
-use test_util::Told;
+use test_util::Verdict;
 
 const ROWS: &[Row] = &[
     // written in pieces, the streams are those of Python
@@ -252,9 +253,9 @@ const ROWS: &[Row] = &[
     ),
 ];
 
-pub fn streams_are_as_the_rows_say(alloc: Global, told: &mut Told) {
+pub fn streams_are_as_the_rows_say(alloc: Global, verdict: &mut Verdict) {
     for row in ROWS {
-        told.expect(answered(alloc, row), Ok(true), row.0);
+        verdict.expect(answer_row(alloc, row), Ok(true), row.0);
     }
-    told.expect(has_header(alloc), Ok(true), "a new stream");
+    verdict.expect(has_header(alloc), Ok(true), "a new stream");
 }

@@ -115,7 +115,7 @@ fn writer_of(
 }
 
 /// The stream of a text of these draws, written in pieces of so many bytes with a flush behind each.
-pub fn sealed(
+pub fn encrypt_in_pieces(
     alloc: Global,
     key: &StreamKind,
     drawn: &[u8],

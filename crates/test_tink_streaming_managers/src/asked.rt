@@ -1,7 +1,7 @@
 //! What is asked of the managers and templates of keys of streams, and the one answer.
 
 use std::alloc::Global;
-use test_util::{Answer, Ask, draws_of, gives, made};
+use test_util::{Answer, Ask, draws_of, gives, succeeds};
 use tink_io::{Draws, Kind, TinkError};
 use tink_primitives::Primitive;
 use tink_proto::{Bytes, HashType, KeyTemplate};
@@ -195,7 +195,7 @@ fn template_is(alloc: Global, of: Template, asked: &Of) -> Result<bool, TinkErro
 impl Ask<()> for Asked {
     fn answer(&self, alloc: Global, _of: &mut ()) -> Result<bool, TinkError> {
         match *self {
-            Asked::Key(mode, bytes) => made(key_of(alloc, mode, bytes)),
+            Asked::Key(mode, bytes) => succeeds(key_of(alloc, mode, bytes)),
             Asked::Format(mode, format) => makes(alloc, mode, format, &NONE),
             Asked::Made(mode, format, ref new) => makes(alloc, mode, format, new),
             Asked::Built(mode, bytes, main, sizes) => {

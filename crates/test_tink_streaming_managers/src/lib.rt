@@ -7,12 +7,12 @@ mod manager_tests;
 mod template_tests;
 
 use std::alloc::Global;
-use test_util::Told;
+use test_util::Verdict;
 
 /// What all rows tell.
-pub fn rows(alloc: Global) -> Told {
-    let mut told = Told::new();
-    manager_tests::rows(alloc, &mut told);
-    template_tests::rows(alloc, &mut told);
-    told
+pub fn rows(alloc: Global) -> Verdict {
+    let mut verdict = Verdict::new();
+    manager_tests::rows(alloc, &mut verdict);
+    template_tests::rows(alloc, &mut verdict);
+    verdict
 }

@@ -2,7 +2,7 @@
 
 use crate::asked::{Asked, CTR, GCM, New, Row};
 use std::alloc::Global;
-use test_util::{Answer, Told};
+use test_util::{Answer, Verdict};
 use tink_io::Kind;
 
 // A key in counter mode of the bytes 0 to 15, from which AES keys of 16 are derived, with SHA-256
@@ -581,30 +581,30 @@ const OTHERS: &[Row] = &[
     ),
 ];
 
-fn ctr_keys(alloc: Global, told: &mut Told) {
-    told.walk(alloc, (), CTR_KEYS);
+fn ctr_keys(alloc: Global, verdict: &mut Verdict) {
+    verdict.walk(alloc, (), CTR_KEYS);
 }
 
-fn ctr_hashes(alloc: Global, told: &mut Told) {
-    told.walk(alloc, (), CTR_HASHES);
+fn ctr_hashes(alloc: Global, verdict: &mut Verdict) {
+    verdict.walk(alloc, (), CTR_HASHES);
 }
 
-fn gcm_keys(alloc: Global, told: &mut Told) {
-    told.walk(alloc, (), GCM_KEYS);
+fn gcm_keys(alloc: Global, verdict: &mut Verdict) {
+    verdict.walk(alloc, (), GCM_KEYS);
 }
 
-fn gcm_hashes(alloc: Global, told: &mut Told) {
-    told.walk(alloc, (), GCM_HASHES);
+fn gcm_hashes(alloc: Global, verdict: &mut Verdict) {
+    verdict.walk(alloc, (), GCM_HASHES);
 }
 
-fn others(alloc: Global, told: &mut Told) {
-    told.walk(alloc, (), OTHERS);
+fn others(alloc: Global, verdict: &mut Verdict) {
+    verdict.walk(alloc, (), OTHERS);
 }
 
-pub fn rows(alloc: Global, told: &mut Told) {
-    ctr_keys(alloc, told);
-    ctr_hashes(alloc, told);
-    gcm_keys(alloc, told);
-    gcm_hashes(alloc, told);
-    others(alloc, told);
+pub fn rows(alloc: Global, verdict: &mut Verdict) {
+    ctr_keys(alloc, verdict);
+    ctr_hashes(alloc, verdict);
+    gcm_keys(alloc, verdict);
+    gcm_hashes(alloc, verdict);
+    others(alloc, verdict);
 }

@@ -2,7 +2,7 @@
 
 use crate::asked::{Asked, CTR, GCM, New, Of, Row, Template};
 use std::alloc::Global;
-use test_util::{Answer, Ask, Named, Told, made};
+use test_util::{Answer, Ask, Named, Verdict, succeeds};
 use tink_io::{Kind, TinkError};
 use tink_proto::Text;
 use tink_registry::{KeyManager, Registry};
@@ -44,8 +44,8 @@ impl Ask<Registry<Named<StreamKinds>>> for Step {
         registry: &mut Registry<Named<StreamKinds>>,
     ) -> Result<bool, TinkError> {
         match *self {
-            Step::Init => made(init(alloc, registry)),
-            Step::Manage(url) => made(registry.register_key_manager(alloc, Named::new(url))),
+            Step::Init => succeeds(init(alloc, registry)),
+            Step::Manage(url) => succeeds(registry.register_key_manager(alloc, Named::new(url))),
             Step::Manages(url, wanted) => Ok(has_manager(registry, url) == wanted),
             Step::HasTemplate(name) => Ok(registry.get_template_generator(name).is_some()),
             Step::HasTemplates(n) => are(registry.template_names(alloc), n),
@@ -252,12 +252,12 @@ const BESIDE: &[(&str, Step, Answer)] = &[
     ),
 ];
 
-fn registries(alloc: Global, told: &mut Told) {
-    told.walk(alloc, Registry::new(alloc), ALL);
-    told.walk(alloc, Registry::new(alloc), BESIDE);
+fn registries(alloc: Global, verdict: &mut Verdict) {
+    verdict.walk(alloc, Registry::new(alloc), ALL);
+    verdict.walk(alloc, Registry::new(alloc), BESIDE);
 }
 
-pub fn rows(alloc: Global, told: &mut Told) {
-    told.walk(alloc, (), ROWS);
-    registries(alloc, told);
+pub fn rows(alloc: Global, verdict: &mut Verdict) {
+    verdict.walk(alloc, (), ROWS);
+    registries(alloc, verdict);
 }

@@ -7,13 +7,13 @@ pub use keys::{
 };
 pub use named::Named;
 pub use registering::{NamedRegistry, Registered, Template, is_made_and_registered};
-pub use rows::{Answer, Failure, Told, answer_of, handle, made};
+pub use rows::{Answer, Failure, Verdict, answer_of, handle, succeeds};
 pub use streams::{
     CTR_35, CTR_4096, CTR_4096_AND_DESTROYED, CTR_4096_ROTATED, GCM_41, shows, sink_of,
 };
 pub use test_aead::{TestAead, TestKinds};
 pub use test_manager::TestManager;
-pub use walk::{Ask, asked};
+pub use walk::{Ask, ask_made};
 
 mod keys;
 mod named;

@@ -1,6 +1,6 @@
 //! What rows ask of the registration of a family's managers and templates.
 
-use crate::{Ask, Named, TestKinds, made};
+use crate::{Ask, Named, TestKinds, succeeds};
 use std::alloc::Global;
 use tink_io::TinkError;
 use tink_proto::{KeyTemplate, Text};
@@ -72,7 +72,10 @@ fn are_names(
 impl Ask<NamedRegistry> for Registered {
     fn answer(&self, alloc: Global, registry: &mut NamedRegistry) -> Result<bool, TinkError> {
         match *self {
-            Registered::Manage(url) => made(registry.register_key_manager(alloc, Named::new(url))),
+            Registered::Manage(url) => succeeds(registry.register_key_manager(
+                alloc,
+                Named::new(url),
+            )),
             Registered::Names(n, first) => are_names(registry.template_names(alloc), n, first),
             Registered::HasNot(url) => Ok(registry.get_key_manager(url).is_err()),
             Registered::Text(found, want) => Ok(found == want),

@@ -22,15 +22,15 @@ pub struct Failure {
 
 /// What rows tell: the first of them that fails. The test of a crate above asserts that there is none.
 #[derive(Drop)]
-pub struct Told {
+pub struct Verdict {
     pub failure: Option<Failure>,
 }
 
-impl Told {
+impl Verdict {
     pub fn new() -> Self
         ensures { result.failure ≡ None }
     {
-        Told { failure: None }
+        Verdict { failure: None }
     }
 
     /// Takes what a row answers, and what it is to answer. There is a failure where there was one, or the two differ.
@@ -56,7 +56,7 @@ pub fn answer_of(got: Result<bool, TinkError>) -> Answer
 }
 
 /// Whether something was made, and no refusal.
-pub fn made<T: Drop>(answer: Result<T, TinkError>) -> Result<bool, TinkError> {
+pub fn succeeds<T: Drop>(answer: Result<T, TinkError>) -> Result<bool, TinkError> {
     match answer {
         Ok(_) => Ok(true),
         Err(e) => Err(e),

@@ -1,6 +1,6 @@
 //! Tables of rows, and what walks them.
 
-use crate::{Answer, Told};
+use crate::{Answer, Verdict};
 use std::alloc::Global;
 use tink_io::TinkError;
 
@@ -10,7 +10,7 @@ pub trait Ask<C> {
     fn answer(&self, alloc: Global, of: &mut C) -> Result<bool, TinkError>;
 }
 
-impl Told {
+impl Verdict {
     /// Takes what each row answers of a value, in their order, and lets the value go. A row is its name, what it asks,
     /// and what it is to answer.
     pub fn walk<C: Drop, A: Ask<C>>(
@@ -41,7 +41,7 @@ impl Told {
 }
 
 /// What a row answers of a value that was made, which it lets go, or the refusal to make it.
-pub fn asked<C: Drop, A: Ask<C>>(
+pub fn ask_made<C: Drop, A: Ask<C>>(
     alloc: Global,
     made: Result<C, TinkError>,
     ask: &A,

@@ -3,7 +3,7 @@ use Rattle.std.proofs.Common.{◌≡◌, ◌∙◌, ℕ, List, refl, sym, ap, su
 use Rattle.std.specs.Prelude.{Result, Ok, Err}
 use Rattle.tink_io.specs.declared.error.Kind.{Kind}
 use Rattle.tink_io.specs.declared.error.TinkError.{TinkError}
-use Rattle.tink_io.specs.Told.{Replies, made_of}
+use Rattle.tink_io.specs.Answering.{Replies, made_of}
 use Rattle.tink_proto.specs.declared.messages.keys.KeyData.{KeyData}
 use Rattle.tink_key_manager.specs.Manager.{symmetric}
 use Rattle.tink.specs.Managers.{row_of}

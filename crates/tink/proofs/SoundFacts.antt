@@ -2,7 +2,7 @@
 use Rattle.std.proofs.Common.{◌≡◌, ◌∙◌, ℕ, List, Result, Ok, Err, refl, ap, subst}
 use Rattle.std.specs.Prelude.{⊤}
 use Rattle.tink_io.specs.declared.error.Kind.{Kind}
-use Rattle.tink_io.specs.Told.{made_of}
+use Rattle.tink_io.specs.Answering.{made_of}
 use Rattle.tink_primitives.specs.declared.primitive.Primitive.TheVariants.{Aead, DeterministicAead, Mac}
 use Rattle.tink_primitives.specs.Sorts.{as_aead, as_deterministic_aead, as_mac, as_prf, as_streaming_aead}
 use Rattle.tink_proto_keys.specs.Aead.{aes_gcm_key, aes_gcm_siv_key}

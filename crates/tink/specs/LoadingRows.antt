@@ -1,7 +1,7 @@
 -- What all types of keys load as: a row for each manager.
 use Rattle.std.specs.Prelude.{ℕ, List, map, Result}
 use Rattle.tink_io.specs.declared.error.Kind.{Kind}
-use Rattle.tink_io.specs.Told.{made_of}
+use Rattle.tink_io.specs.Answering.{made_of}
 use Rattle.tink_primitives.specs.declared.primitive.Primitive.{Primitive}
 use Rattle.tink_primitives.specs.declared.primitive.Primitive.TheVariants.{StreamingAead}
 use Rattle.tink_streaming_keys.specs.declared.stream_kind.StreamKind.{StreamKind}

@@ -1,7 +1,7 @@
 -- The eleven managers, a row each.
 use Rattle.std.specs.Prelude.{ℕ, List, is_some, nat_eq}
 use Rattle.tink_io.specs.declared.error.Kind.TheVariants.{InvalidKey}
-use Rattle.tink_io.specs.Told.{made_of, or_refused}
+use Rattle.tink_io.specs.Answering.{made_of, or_refused}
 use Rattle.tink_primitives.specs.declared.kinds.Never.{Never}
 use Rattle.tink_primitives.specs.declared.primitive.Primitive.{Primitive}
 use Rattle.tink_primitives.specs.declared.primitive.Primitive.TheVariants.{Aead, DeterministicAead, Mac, Prf, StreamingAead}

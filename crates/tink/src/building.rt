@@ -1,7 +1,7 @@
 //! What a key of a type of keys builds, as a primitive of all sorts, and what its formats make.
 
 ghost use Rattle.std.specs.Prelude.{◌≡◌};
-ghost use Rattle.tink_io.specs.Told.{Answers, Replies};
+ghost use Rattle.tink_io.specs.Answering.{Answers, Replies};
 ghost use Rattle.tink_primitives.specs.Sorts.{as_aead, as_deterministic_aead, as_mac, as_prf, as_streaming_aead};
 ghost use Rattle.tink_key_manager.specs.Manager.{builds, makes};
 ghost use Rattle.tink.specs.Managers.{as_built_aead, as_built_daead, as_built_mac, as_built_prf, as_built_stream};

@@ -3,7 +3,7 @@ use Rattle.std.proofs.Common.{inl, inr, ⊎_elim, ◌≡◌, ℕ, List, [], ap, 
 use Rattle.std.specs.Prelude.{Result, Ok, Err}
 use Rattle.tink_io.specs.declared.error.Kind.{Kind}
 use Rattle.tink_io.specs.declared.error.TinkError.{TinkError}
-use Rattle.tink_io.specs.Told.{Answers, Replies}
+use Rattle.tink_io.specs.Answering.{Answers, Replies}
 use Rattle.tink_primitives.specs.Meaning.{IsEndOf}
 use Rattle.tink_primitives.specs.MeaningLaws.{end_trans}
 use Rattle.tink_aead.specs.Envelope.{after, after_answer}

@@ -16,7 +16,7 @@ use Rattle.tink_proto_keys.specs.declared.aes_ctr_hmac.AesCtrParams.{AesCtrParam
 use Rattle.tink_proto_keys.specs.Mac.{HmacKeyFormat, HmacKey}
 use Rattle.tink_proto_keys.specs.declared.aes_ctr_hmac.AesCtrKeyFormat.{AesCtrKeyFormat}
 use Rattle.tink_io.specs.declared.error.TinkError.{TinkError}
-use Rattle.tink_io.specs.Told.{Answers, IsShort, Replies, Tells, made_of}
+use Rattle.tink_io.specs.Answering.{Answers, IsShort, Replies, Tells, made_of}
 use Rattle.tink_primitives.specs.Meaning.{IsEndOf}
 use Rattle.tink_primitives.specs.MeaningLaws.{end_trans}
 use Rattle.tink_core_subtle.specs.Random.{takes_bytes}

@@ -7,7 +7,7 @@ use Rattle.std.proofs.lemmas.List.{drop_at, take_at}
 use Rattle.standards.proofs.ByteOrder.{from_be_bytes-to_be_bytes, length-to_be_bytes}
 use Rattle.tink_io.specs.declared.error.Kind.{Kind}
 use Rattle.tink_io.specs.declared.error.Kind.TheVariants.{DecryptFailed, LengthOverU32, TooShort}
-use Rattle.tink_io.specs.Told.{and_then}
+use Rattle.tink_io.specs.Answering.{and_then}
 use Rattle.tink_aead.specs.Envelope.{after_answer, cut_decrypts, envelope_decrypts, parts_decrypt}
 use Rattle.tink_aead.specs.EnvelopeLaws.{EnvelopeUndoes}
 use Rattle.tink_aead_subtle.proofs.Exact.{passed}

@@ -6,7 +6,7 @@ use Rattle.std.proofs.lemmas.Bool.{le-leb, le-ltb, lt-leb, ne_eqb}
 use Rattle.tink_io.specs.declared.error.Kind.{Kind}
 use Rattle.tink_io.specs.declared.error.Kind.TheVariants.{DecryptFailed, TooShort}
 use Rattle.tink_io.specs.declared.error.TinkError.{TinkError}
-use Rattle.tink_io.specs.Told.{Answers, Replies, and_then}
+use Rattle.tink_io.specs.Answering.{Answers, Replies, and_then}
 use Rattle.tink_primitives.specs.Meaning.{IsDrawn}
 use Rattle.tink_primitives.specs.MeaningLaws.{replies_end}
 use Rattle.tink_aead.specs.Envelope.{by_data_key, by_key_bytes, by_remote_key, enveloped, envelope_decrypts, envelope_encrypts, envelope_parts, parts_at, parts_decrypt}

@@ -9,7 +9,7 @@ use Rattle.tink_primitives.specs.declared.primitive.Primitive.{Primitive}
 use Rattle.tink_primitives.specs.declared.primitive.Primitive.TheVariants.{Aead}
 use Rattle.tink_sets.specs.Entries.{entry_of_id}
 use Rattle.tink_sets.specs.declared.entry.TypedEntry.{TypedEntry}
-use Rattle.keyset_model.specs.Commands.{after_all}
+use Rattle.keyset_model.specs.Operations.{after_all}
 use Rattle.keyset_model.proofs.EnabledLaw.{keeps_enabled}
 use Rattle.tink_keysets.specs.Decrypting.{entry_decrypts}
 use Rattle.tink_keysets.proofs.KeyEntries.{key_holds, made_ok, primary_key, primary_there}

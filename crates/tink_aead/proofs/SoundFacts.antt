@@ -9,7 +9,7 @@ use Rattle.standards.specs.GcmSiv.{gcm_siv}
 use Rattle.gcm.specs.Limits.{MOST_GCM, MOST_GCM_SIV}
 use Rattle.tink_io.specs.declared.error.Kind.{Kind}
 use Rattle.tink_io.specs.declared.error.Kind.TheVariants.{InvalidKey}
-use Rattle.tink_io.specs.Told.{made_of}
+use Rattle.tink_io.specs.Answering.{made_of}
 use Rattle.tink_proto_keys.specs.declared.aead.AesGcmKey.{AesGcmKey}
 use Rattle.tink_proto_keys.specs.declared.aead.AesGcmSivKey.{AesGcmSivKey}
 use Rattle.tink_proto_keys.specs.declared.aes_ctr_hmac.AesCtrHmacAeadKey.{AesCtrHmacAeadKey}

@@ -2,7 +2,7 @@
 use Rattle.std.specs.Prelude.{ℕ, List, Option, Some, None, Result, Ok, Err, nat_eq}
 use Rattle.tink_io.specs.declared.error.Kind.{Kind}
 use Rattle.tink_io.specs.declared.error.Kind.TheVariants.{InvalidFormat, InvalidKey}
-use Rattle.tink_io.specs.Told.{made_of}
+use Rattle.tink_io.specs.Answering.{made_of}
 use Rattle.tink_core_subtle.specs.Random.{takes_bytes}
 use Rattle.tink_primitives.specs.Meaning.{IsDrawn, IsTold}
 use Rattle.tink_primitives.specs.MeaningLaws.{drawn_if, drawn_none, end_trans, made_told, told_if}

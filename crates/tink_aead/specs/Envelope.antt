@@ -8,7 +8,7 @@ use Rattle.tink_primitives.specs.declared.primitive.Primitive.{Primitive}
 use Rattle.tink_proto.specs.declared.enums.OutputPrefixType.TheVariants.{Raw}
 use Rattle.tink_proto.specs.declared.messages.keys.KeyTemplate.{KeyTemplate}
 use Rattle.tink_proto_keys.specs.Envelope.{kms_envelope_aead_key_format}
-use Rattle.tink_io.specs.Told.{and_then}
+use Rattle.tink_io.specs.Answering.{and_then}
 use Rattle.tink_registry.specs.Listed.{registry_builds}
 use Rattle.tink_key_manager.specs.Templates.{template_of}
 

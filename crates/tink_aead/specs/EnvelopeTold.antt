@@ -8,7 +8,7 @@ use Rattle.tink_primitives.specs.MeaningLaws.{drawn_none, end_trans, told_if}
 use Rattle.tink_primitives.specs.Sorts.{as_aead}
 use Rattle.tink_primitives.specs.declared.primitive.Primitive.{Primitive}
 use Rattle.tink_primitives.specs.declared.primitive.Primitive.TheVariants.{Aead}
-use Rattle.tink_io.specs.Told.{and_then}
+use Rattle.tink_io.specs.Answering.{and_then}
 use Rattle.tink_registry.specs.Listed.{registry_builds}
 use Rattle.tink_registry.specs.ListedLaws.{registry_builds_told}
 use Rattle.tink_aead.specs.Envelope.{after, after_answer, cut_decrypts, data_key_aead, enveloped, envelope_decrypts, envelope_encrypts, parts_decrypt}

@@ -9,7 +9,7 @@ use Rattle.tink_primitives.specs.declared.primitive.Primitive.{Primitive}
 use Rattle.tink_primitives.specs.declared.primitive.Primitive.TheVariants.{Aead}
 use Rattle.tink_sets.specs.Entries.{entry_of_id}
 use Rattle.tink_sets.specs.declared.entry.TypedEntry.{TypedEntry}
-use Rattle.keyset_model.specs.Commands.{Command, Maker, Managed, after_all}
+use Rattle.keyset_model.specs.Operations.{Operation, Maker, Managed, after_all}
 use Rattle.keyset_model.specs.Spared.{Spares}
 use Rattle.keyset_model.specs.Keys.{enabled}
 use Rattle.tink_keysets.specs.Accepting.{entries_of}
@@ -57,7 +57,7 @@ module _ {P : Type 0} (encrypts : P → List ℕ → List ℕ → List ℕ → R
     -- destroy nor delete the key, where none of them opens it to another text.
     abbrev pub EnabledKeysOpen : Type 0
     EnabledKeysOpen =
-        (makes : Maker) (managers : List R) (m : Managed) (commands : List Command) (k : Key) (e : TypedEntry P) (es : List (TypedEntry P)) (text aad input : List ℕ)
+        (makes : Maker) (managers : List R) (m : Managed) (commands : List Operation) (k : Key) (e : TypedEntry P) (es : List (TypedEntry P)) (text aad input : List ℕ)
         → Contains (enabled m.keyset) k → All (Spares k.key_id) commands → aead_entry url supports builds managers k ≡ Ok e
         → aead_entries url supports builds managers (after_all makes m commands).keyset ≡ Ok es → IsSealedBy e text aad input
         → All (OpensToNoOther decrypts text aad input) es → any_decrypts decrypts (entries_of es) input aad ≡ Ok text
@@ -66,7 +66,7 @@ module _ {P : Type 0} (encrypts : P → List ℕ → List ℕ → List ℕ → R
     -- destroy nor delete a key of the primary id, where no entry opens it to another text.
     abbrev pub EncryptedOpens : Type 0
     EncryptedOpens =
-        (makes : Maker) (managers : List R) (m : Managed) (commands : List Command) (es later : List (TypedEntry P)) (text aad draws input : List ℕ)
+        (makes : Maker) (managers : List R) (m : Managed) (commands : List Operation) (es later : List (TypedEntry P)) (text aad draws input : List ℕ)
         → All (Spares m.keyset.primary_key_id) commands → aead_entries url supports builds managers m.keyset ≡ Ok es
         → All (λ e. Undoes (encrypts e.primitive) (decrypts e.primitive)) es
         → (primary_encrypts encrypts (entry_of_id m.keyset.primary_key_id es) text aad draws).0 ≡ Ok input → 5 < length input
@@ -77,7 +77,7 @@ module _ {P : Type 0} (encrypts : P → List ℕ → List ℕ → List ℕ → R
     abbrev pub CiphertextsOutlive : Type 0
     CiphertextsOutlive =
         BuildsSoundAeads builds
-        → (makes : Maker) (managers : List R) (m : Managed) (commands : List Command) (es later : List (TypedEntry P)) (text aad draws input : List ℕ)
+        → (makes : Maker) (managers : List R) (m : Managed) (commands : List Operation) (es later : List (TypedEntry P)) (text aad draws input : List ℕ)
         → All (Spares m.keyset.primary_key_id) commands → aead_entries url supports builds managers m.keyset ≡ Ok es
         → aead_entries url supports builds managers (after_all makes m commands).keyset ≡ Ok later
         → (primary_encrypts encrypts (entry_of_id m.keyset.primary_key_id es) text aad draws).0 ≡ Ok input

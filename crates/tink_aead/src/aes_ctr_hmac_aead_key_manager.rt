@@ -1,7 +1,7 @@
 //! The keys of AES in counter mode with HMAC.
 
 ghost use Rattle.std.specs.Prelude.{◌≡◌};
-ghost use Rattle.tink_io.specs.Told.{Answers, Replies, made_of};
+ghost use Rattle.tink_io.specs.Answering.{Answers, Replies, made_of};
 ghost use Rattle.tink_primitives.specs.declared.primitive.Primitive.TheVariants as sorts;
 ghost use Rattle.tink_aead.specs.declared.aead_kind.AeadKind.TheVariants as kinds;
 ghost use Rattle.tink_core_subtle.specs.Random.{takes_bytes};

@@ -1,7 +1,7 @@
 //! Templates of AEAD keys.
 
 ghost use Rattle.std.specs.Prelude.{Ok};
-ghost use Rattle.tink_io.specs.Told.{Answers};
+ghost use Rattle.tink_io.specs.Answering.{Answers};
 ghost use Rattle.tink_proto.specs.declared.enums.HashType.TheVariants.{Sha256, Sha512};
 ghost use Rattle.tink_proto.specs.declared.enums.OutputPrefixType.TheVariants.{Raw, Tink};
 ghost use Rattle.tink_aead.specs.ComposedKeys.{composed_template};

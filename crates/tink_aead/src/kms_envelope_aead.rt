@@ -2,7 +2,7 @@
 
 ghost use Rattle.std.specs.Prelude.{◌≡◌, length, IfOk, IfErr, MatchResult, Ok, Err};
 ghost use Rattle.std.specs.Int.{w32, from_be_bytes};
-ghost use Rattle.tink_io.specs.Told.{Answers, Replies, and_then};
+ghost use Rattle.tink_io.specs.Answering.{Answers, Replies, and_then};
 ghost use Rattle.tink_io.specs.declared.error.Kind.TheVariants.{OutOfMemory};
 ghost use Rattle.tink_aead.specs.Envelope.{by_key_bytes, data_key_aead, enveloped, envelope_parts};
 ghost use Rattle.tink_aead.specs.EnvelopeLaws.{EnvelopeUndoes};
@@ -94,7 +94,7 @@ fn data_key_aead<M: KeyManager>(
 }
 
 // The length of an encrypted data key, that key, and what it encrypts.
-fn enveloped(alloc: Global, encrypted_dek: &Bytes, payload: &Bytes) -> Result<Bytes, TinkError>
+fn envelope_of(alloc: Global, encrypted_dek: &Bytes, payload: &Bytes) -> Result<Bytes, TinkError>
     ensures { Answers result (enveloped encrypted_dek.now payload.now) }
 {
     let encrypted_dek = encrypted_dek.as_slice();
@@ -125,7 +125,7 @@ fn encrypt_by_key<M: KeyManager>(
 {
     match data_key_aead(alloc, registry, kt, dek) {
         Ok(primitive) => match primitive.encrypt(alloc, plaintext, additional_data, draws) {
-            Ok(payload) => enveloped(alloc, encrypted_dek, &payload),
+            Ok(payload) => envelope_of(alloc, encrypted_dek, &payload),
             Err(e) => Err(e),
         },
         Err(e) => Err(e),

@@ -1,7 +1,7 @@
 //! The managers and templates of AEAD keys, registered.
 
 ghost use Rattle.std.specs.Prelude.{◌≡◌, ◌∷◌, ◌++◌, [], IfErr, IfOk, Ok, OnOk};
-ghost use Rattle.tink_io.specs.Told.{Answers};
+ghost use Rattle.tink_io.specs.Answering.{Answers};
 ghost use Rattle.tink_io.specs.declared.error.Kind.TheVariants.{OutOfMemory};
 ghost use Rattle.tink_proto.specs.declared.messages.keys.KeyTemplate.{KeyTemplate};
 ghost use Rattle.tink_registry.specs.Registering.{AreMade, IsMade, Registers};

@@ -3,7 +3,7 @@ use Rattle.std.proofs.Common.{◌≡◌, ◌≤◌, ◌-◌, ℕ, Bool, true, fa
 use Rattle.std.specs.Prelude.{Result, Ok, Err, if◌then◌else◌}
 use Rattle.std.proofs.lemmas.Bool.{leb-true}
 use Rattle.std.proofs.lemmas.List.{drop-replicate, length-take-le}
-use Rattle.tink_io.specs.Told.{takes}
+use Rattle.tink_io.specs.Answering.{takes}
 use Rattle.tink_io.specs.declared.error.Kind.{Kind}
 use Rattle.tink_io.specs.declared.error.Kind.TheVariants.{RandomFault}
 use Rattle.tink_aead_subtle.specs.CounterMode.{counter_block, drawn_block}

@@ -4,7 +4,7 @@ ghost use Rattle.std.specs.Prelude.{◌≡◌, ◌≤◌, ◌+◌, ◌++◌, len
 ghost use Rattle.std.specs.Int.{w64};
 ghost use Rattle.standards.specs.AesKeys.{aes};
 ghost use Rattle.standards.specs.Counter.{ctr, plus_be};
-ghost use Rattle.tink_io.specs.Told.{Answers, Replies};
+ghost use Rattle.tink_io.specs.Answering.{Answers, Replies};
 ghost use Rattle.tink_aead_subtle.specs.CounterMode.{counter_block, ctr_decrypts, ctr_encrypts, drawn_block};
 ghost use Rattle.tink_aead_subtle.specs.CounterMode.{sized_with_iv};
 

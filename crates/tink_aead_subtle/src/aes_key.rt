@@ -1,7 +1,7 @@
 //! AES keys of 16 or 32 bytes.
 
 ghost use Rattle.std.specs.Prelude.{◌≡◌, length, if◌then◌else◌, Ok, Err, MatchOption};
-ghost use Rattle.tink_io.specs.Told.{Answers, Tells};
+ghost use Rattle.tink_io.specs.Answering.{Answers, Tells};
 ghost use Rattle.tink_io.specs.declared.error.Kind.TheVariants.{BadKeySize};
 ghost use Rattle.tink_aead_subtle.specs.KeySizes.{is_aes_key_size, sized};
 

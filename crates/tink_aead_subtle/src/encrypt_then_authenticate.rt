@@ -1,7 +1,7 @@
 //! Encryption and then a MAC.
 
 ghost use Rattle.std.specs.Prelude.{◌≡◌, ◌<◌, ◌^◌, length, nat_le, if◌then◌else◌, Ok, Err, IfOk};
-ghost use Rattle.tink_io.specs.Told.{Answers, Replies, Tells};
+ghost use Rattle.tink_io.specs.Answering.{Answers, Replies, Tells};
 ghost use Rattle.tink_io.specs.declared.error.Kind.TheVariants.{BadTagSize};
 ghost use Rattle.tink_aead_subtle.specs.Composed.{authenticated, composed_decrypts, composed_encrypts, tagged};
 
@@ -53,11 +53,7 @@ impl<C: IndCpaCipher + Drop, M: Mac + Drop> EncryptThenAuthenticate<C, M> {
 }
 
 // What the tag is over.
-fn authenticated(
-    alloc: Global,
-    additional_data: &[u8],
-    sealed: &[u8],
-) -> Result<Vec<u8>, AllocError>
+fn mac_input(alloc: Global, additional_data: &[u8], sealed: &[u8]) -> Result<Vec<u8>, AllocError>
     requires { length additional_data.now < 2 ^ 61 }
     ensures { IfOk result (λ message. message.items ≡ authenticated additional_data.now sealed.now) }
 {
@@ -81,7 +77,7 @@ fn with_tag<M: Mac>(
     if additional_data.len() >= TOO_MUCH_DATA {
         return Err(TinkError::new(Kind::DataTooLong));
     }
-    let message = authenticated(alloc, additional_data, sealed.as_slice())?;
+    let message = mac_input(alloc, additional_data, sealed.as_slice())?;
     let tag = mac.compute_mac(alloc, &message)?;
     if tag.as_slice().len() != tag_size {
         return Err(TinkError::new(Kind::BadTagSize));
@@ -150,7 +146,7 @@ impl<C: IndCpaCipher, M: Mac> Aead for EncryptThenAuthenticate<C, M> {
             return Err(TinkError::new(Kind::DataTooLong));
         }
         let n = ciphertext.len() - self.tag_size;
-        let message = authenticated(alloc, additional_data, &ciphertext[..n])?;
+        let message = mac_input(alloc, additional_data, &ciphertext[..n])?;
         self.mac.verify_mac(alloc, &ciphertext[n..], &message)?;
         self.ind_cpa_cipher.decrypt(alloc, &ciphertext[..n])
     }

@@ -1,7 +1,7 @@
 //! Keys of AES-GCM, and what a prepared one keeps.
 
 ghost use Rattle.std.specs.Prelude.{◌≡◌, ⊤, ℕ, List, MatchOption, OnErr};
-ghost use Rattle.tink_io.specs.Told.{Answers, Replies};
+ghost use Rattle.tink_io.specs.Answering.{Answers, Replies};
 ghost use Rattle.tink_aead_subtle.specs.AesAeads.{gcm_decrypts, gcm_encrypts};
 ghost use Rattle.tink_aead_subtle.specs.GcmKeys.{IsKeyedBy};
 

@@ -2,7 +2,7 @@
 
 ghost use Rattle.std.specs.Prelude.{List, ℕ, Result};
 ghost use Rattle.tink_io.specs.declared.error.Kind.{Kind};
-ghost use Rattle.tink_io.specs.Told.{Answers, Replies};
+ghost use Rattle.tink_io.specs.Answering.{Answers, Replies};
 ghost use Rattle.tink_primitives.specs.Meaning.{IsTold, IsDrawn};
 
 use std::alloc::Global;

@@ -6,7 +6,7 @@ ghost use Rattle.gcm.specs.Limits.{MOST_GCM, MOST_GCM_SIV};
 ghost use Rattle.gcm.specs.Siv.{cipher_of};
 ghost use Rattle.standards.specs.Gcm.{gcm};
 ghost use Rattle.standards.specs.GcmSiv.{encryption_key, gcm_siv};
-ghost use Rattle.tink_io.specs.Told.{Answers, Replies, Tells};
+ghost use Rattle.tink_io.specs.Answering.{Answers, Replies, Tells};
 ghost use Rattle.tink_aead_subtle.specs.NonceAeads.{decryption, encryption, gcm_siv_text_of, gcm_text_of};
 ghost use Rattle.tink_aead_subtle.specs.NonceAeads.{kind_of, limited};
 

@@ -7,7 +7,7 @@ ghost use Rattle.tink_c_streams.specs.Streams.{GivesRange, Moves, MovesNot, Refu
 
 use std::alloc::Global;
 use tink_c_bytes::deliver;
-use tink_c_streams::{moved, range, run_whole};
+use tink_c_streams::{range, rewrap_file, run_whole};
 use tink_run::report::Command;
 
 /// The stream of a plaintext under the primary key of a keyset.
@@ -101,7 +101,7 @@ pub extern "C" fn tink_rewrap_stream(
         (handed out.old out.new written.new result) }
 {
     deliver(
-        moved(
+        rewrap_file(
             alloc,
             keyset,
             associated_data,

@@ -1,7 +1,7 @@
 //! What a call made goes into the caller's buffer.
 
 ghost use Rattle.std.specs.Prelude.{◌≡◌, ℕ, List, Result, Ok};
-ghost use Rattle.tink_io.specs.Told.{Answers};
+ghost use Rattle.tink_io.specs.Answering.{Answers};
 ghost use Rattle.tink_io.specs.declared.error.Kind.{Kind};
 ghost use Rattle.tink_c_bytes.specs.Delivered.{Delivers, Puts, Reports, handed};
 ghost use Rattle.tink_c_bytes.specs.Statuses.{c_status};

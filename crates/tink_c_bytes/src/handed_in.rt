@@ -10,7 +10,7 @@ use tink_io::{Draws, TinkError};
 ///
 /// # Errors
 /// `OutOfMemory` alone.
-pub fn copied(alloc: Global, bytes: &[u8]) -> Result<Vec<u8>, TinkError>
+pub fn copy_of(alloc: Global, bytes: &[u8]) -> Result<Vec<u8>, TinkError>
     ensures ok { IfOk result (λ v. v.items ≡ bytes.now) }
     ensures err { IfErr result (λ e. e ≡ record { kind = OutOfMemory }) }
 {
@@ -25,6 +25,6 @@ pub fn draws_of(alloc: Global, random: &[u8]) -> Result<Draws, TinkError>
     ensures ok { IfOk result (λ d. d ≡ random.now) }
     ensures err { IfErr result (λ e. e ≡ record { kind = OutOfMemory }) }
 {
-    let bytes = copied(alloc, random)?;
+    let bytes = copy_of(alloc, random)?;
     Ok(Draws::new(bytes))
 }

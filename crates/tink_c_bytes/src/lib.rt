@@ -8,5 +8,5 @@ mod taking;
 
 pub use delivering::{OK, TOO_LITTLE_ROOM, deliver, report, status};
 pub use growing::Growing;
-pub use handed_in::{copied, draws_of};
-pub use taking::taken;
+pub use handed_in::{copy_of, draws_of};
+pub use taking::take_bytes;

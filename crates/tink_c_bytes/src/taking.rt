@@ -10,7 +10,7 @@ use tink_proto::Bytes;
 ///
 /// # Errors
 /// `OutOfMemory` if a write to the sink failed; else that of the call.
-pub fn taken<T: Drop>(answer: Result<T, TinkError>, sink: Growing) -> Result<Bytes, TinkError>
+pub fn take_bytes<T: Drop>(answer: Result<T, TinkError>, sink: Growing) -> Result<Bytes, TinkError>
     ensures { IsTaken answer sink result }
 {
     if !sink.is_intact() {

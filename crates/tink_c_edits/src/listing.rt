@@ -1,11 +1,11 @@
 //! The keys of a file as a text, without key material.
 
-ghost use Rattle.tink_io.specs.Told.{Answers};
+ghost use Rattle.tink_io.specs.Answering.{Answers};
 ghost use Rattle.tink_keyset_io.specs.Files.{wire_of};
 ghost use Rattle.tink_c_edits.specs.FileListed.{listed_file, listed_file_json};
 
 use std::alloc::Global;
-use tink_c_bytes::copied;
+use tink_c_bytes::copy_of;
 use tink_io::TinkError;
 use tink_keyset_io::key_files;
 use tink_proto::Bytes;
@@ -36,6 +36,6 @@ pub fn list_json(alloc: Global, file: &[u8]) -> Result<Bytes, TinkError>
 fn wire_in(alloc: Global, file: &[u8]) -> Result<Bytes, TinkError>
     ensures { Answers result (wire_of file.now) }
 {
-    let file = copied(alloc, file)?;
+    let file = copy_of(alloc, file)?;
     key_files::wire_bytes(alloc, file)
 }

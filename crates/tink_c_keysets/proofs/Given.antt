@@ -1,6 +1,6 @@
 -- From the values that a call was given to those that the caller handed in.
 use Rattle.std.proofs.Common.{◌≡◌, ◌⊎◌, inl, inr, refl, ℕ, List, [], Result, Ok, Err, ap, subst, sym}
-use Rattle.tink_io.specs.Told.{Answers, Replies}
+use Rattle.tink_io.specs.Answering.{Answers, Replies}
 use Rattle.tink_io.specs.declared.error.Kind.{Kind}
 use Rattle.tink_io.specs.declared.error.Kind.TheVariants.{OutOfMemory, RandomFault}
 use Rattle.tink_io.specs.declared.error.TinkError.{TinkError}

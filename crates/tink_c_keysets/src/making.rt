@@ -1,12 +1,12 @@
 //! Files of keys are made, grown by a new key, and converted.
 
 ghost use Rattle.std.specs.Prelude.{◌≡◌, None};
-ghost use Rattle.tink_io.specs.Told.{Answers};
+ghost use Rattle.tink_io.specs.Answering.{Answers};
 ghost use Rattle.tink_cli_files.specs.Saved.{added_file, converted_file, new_file, rotated_file};
 ghost use Rattle.tink_c_keysets.specs.Formats.{format_by};
 
 use std::alloc::Global;
-use tink_c_bytes::{copied, draws_of};
+use tink_c_bytes::{copy_of, draws_of};
 use tink_cli_files::{added_file, converted_file, new_file, rotated_file};
 use tink_io::TinkError;
 use tink_keyset_io::key_files::Format;
@@ -39,7 +39,7 @@ pub fn rotate(
     ensures { Answers result (rotated_file file.now template.now to_any random.now) }
 {
     let mut draws = draws_of(alloc, random)?;
-    let file = copied(alloc, file)?;
+    let file = copy_of(alloc, file)?;
     rotated_file(alloc, file, template, to_any, &mut draws)
 }
 
@@ -51,7 +51,7 @@ pub fn add(alloc: Global, file: &[u8], template: &[u8], random: &[u8]) -> Result
     ensures { Answers result (added_file file.now template.now random.now) }
 {
     let mut draws = draws_of(alloc, random)?;
-    let file = copied(alloc, file)?;
+    let file = copy_of(alloc, file)?;
     added_file(alloc, file, template, &mut draws)
 }
 
@@ -62,7 +62,7 @@ pub fn add(alloc: Global, file: &[u8], template: &[u8], random: &[u8]) -> Result
 pub fn convert(alloc: Global, file: &[u8], json: bool) -> Result<Bytes, TinkError>
     ensures { Answers result (converted_file file.now (format_by json)) }
 {
-    let file = copied(alloc, file)?;
+    let file = copy_of(alloc, file)?;
     converted_file(alloc, file, format_by(json))
 }
 

@@ -3,15 +3,15 @@
 ghost use Rattle.std.specs.Prelude.{◌≡◌, ℕ, List};
 ghost use Rattle.std.specs.declared.result.Result.{Result};
 ghost use Rattle.tink_io.specs.declared.error.Kind.{Kind};
-ghost use Rattle.tink_io.specs.Told.{Answers};
+ghost use Rattle.tink_io.specs.Answering.{Answers};
 ghost use Rattle.tink_cli_files.specs.Masters.{GivesMaster, IsMaster, MasterKeys, master_of};
 ghost use Rattle.tink_cli_files.specs.Wrapping.{unwrapped_file, wrapped_file};
 ghost use Rattle.tink_c_keysets.specs.Formats.{Lacks, format_by, had_random, has_random, unwrapped_under, wrapped_under, wrapped_with};
 
 use crate::making::format_by;
 use std::alloc::Global;
-use tink_c_bytes::{copied, draws_of};
-use tink_cli_files::under_master::{Master, load_master, unwrapped, wrapped};
+use tink_c_bytes::{copy_of, draws_of};
+use tink_cli_files::under_master::{Master, load_master, unwrap_file, wrap_file};
 use tink_io::{Kind, TinkError};
 use tink_primitives::Aead;
 use tink_proto::Bytes;
@@ -51,14 +51,14 @@ pub fn unwrap(
     ensures { Answers result (unwrapped_under master.now wrapped.now associated_data.now json) }
 {
     let master = master_in(alloc, master)?;
-    unwrapped(alloc, &master, wrapped, associated_data, format_by(json))
+    unwrap_file(alloc, &master, wrapped, associated_data, format_by(json))
 }
 
 // The AEADs of a file of keys.
 fn master_in(alloc: Global, file: &[u8]) -> Result<Master, TinkError>
     ensures { GivesMaster result (master_of file.now) }
 {
-    let file = copied(alloc, file)?;
+    let file = copy_of(alloc, file)?;
     load_master(alloc, file)
 }
 
@@ -128,8 +128,8 @@ fn wrap_now(
         → Answers result (wrapped_file m file.now associated_data.now (format_by json) random.now) }
 {
     let mut draws = draws_of(alloc, random)?;
-    let file = copied(alloc, file)?;
-    wrapped(
+    let file = copy_of(alloc, file)?;
+    wrap_file(
         alloc,
         master,
         file,

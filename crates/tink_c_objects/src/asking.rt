@@ -2,7 +2,7 @@
 //! no call changes it.
 
 ghost use Rattle.std.specs.Prelude.{◌≡◌, Some};
-ghost use Rattle.tink_io.specs.Told.{Answers};
+ghost use Rattle.tink_io.specs.Answering.{Answers};
 ghost use Rattle.tink_sets.specs.Groups.{group_of};
 ghost use Rattle.tink_keysets.specs.Decrypting.{any_decrypts};
 ghost use Rattle.tink_prf.specs.PrfKinds.{kind_output};

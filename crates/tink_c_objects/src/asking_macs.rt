@@ -1,7 +1,7 @@
 //! What objects of MACs answer, and the tokens that they sign. No call changes an object.
 
 ghost use Rattle.std.specs.Prelude.{◌≡◌, Some};
-ghost use Rattle.tink_io.specs.Told.{Answers};
+ghost use Rattle.tink_io.specs.Answering.{Answers};
 ghost use Rattle.tink_sets.specs.Groups.{group_of};
 ghost use Rattle.tink_mac.specs.MacKinds.{kind_computes, kind_verifies};
 ghost use Rattle.tink_mac.specs.Wrapped.{any_verifies, primary_mac};

@@ -27,7 +27,7 @@ fn load_aead(alloc: Global, file: &[u8]) -> Result<Box<Object>, TinkError>
     ensures { Loads IsAead Aead (aeads_of file.now) result }
 {
     let aeads = aeads_in_file(alloc, file)?;
-    boxed(alloc, Object::Aead(aeads))
+    box_object(alloc, Object::Aead(aeads))
 }
 
 /// Fills an object with the deterministic AEADs of the valid keyset of a file. The object that was there is freed. After a status other
@@ -43,7 +43,7 @@ fn load_daead(alloc: Global, file: &[u8]) -> Result<Box<Object>, TinkError>
     ensures { Loads IsDaead Daead (daeads_of file.now) result }
 {
     let daeads = daeads_in_file(alloc, file)?;
-    boxed(alloc, Object::Daead(daeads))
+    box_object(alloc, Object::Daead(daeads))
 }
 
 /// Fills an object with the MACs of the valid keyset of a file. The object that was there is freed. After a status other
@@ -59,7 +59,7 @@ fn load_mac(alloc: Global, file: &[u8]) -> Result<Box<Object>, TinkError>
     ensures { Loads AreLoadedMacs Mac (macs_of_file file.now) result }
 {
     let macs = macs_in_file(alloc, file)?;
-    boxed(alloc, Object::Mac(macs))
+    box_object(alloc, Object::Mac(macs))
 }
 
 /// Fills an object with the pseudorandom functions of the valid keyset of a file. The object that was there is freed. After a status other
@@ -75,11 +75,11 @@ fn load_prfs(alloc: Global, file: &[u8]) -> Result<Box<Object>, TinkError>
     ensures { Loads ArePrfs Prfs (prfs_of_file file.now) result }
 {
     let prfs = prfs_in_file(alloc, file)?;
-    boxed(alloc, Object::Prfs(prfs))
+    box_object(alloc, Object::Prfs(prfs))
 }
 
 // An object on the heap.
-pub(crate) fn boxed(alloc: Global, object: Object) -> Result<Box<Object>, TinkError>
+pub(crate) fn box_object(alloc: Global, object: Object) -> Result<Box<Object>, TinkError>
     ensures ok { IfOk result (λ b. b.value ≡ object) }
     ensures err { IfErr result (λ e. e.kind ≡ OutOfMemory) }
 {

@@ -9,7 +9,7 @@ ghost use Rattle.tink_c_streams.specs.Writers.{BeginsNoWriter, BeginsWriter, End
 ghost use Rattle.tink_c_objects.specs.Objects.{held_by};
 ghost use Rattle.tink_c_objects.specs.Writers.{FillsWriter, OfWriter, WriterEnds, WriterNeeds, WriterTakes};
 
-use crate::filling::{boxed, fill};
+use crate::filling::{box_object, fill};
 use crate::object::Object;
 use crate::owner::Owner;
 use std::alloc::Global;
@@ -44,7 +44,7 @@ fn load_writer(
         (λ e. BeginsNoWriter file.now associated_data.now random.now e.kind) }
 {
     let writer = writer_of(alloc, file, associated_data, random)?;
-    boxed(alloc, Object::Writer(writer))
+    box_object(alloc, Object::Writer(writer))
 }
 
 /// Takes a piece of text, puts at the beginning of `out` the bytes of the stream that it gives, and writes how many these

@@ -1,7 +1,7 @@
 -- The keys that the registry of all managers builds.
 use Rattle.std.proofs.Common.{◌≡◌, inl, inr, ℕ, List, Bool, Result, Ok, Err, ap, sym, subst}
 use Rattle.std.specs.Str.{bytes_eq}
-use Rattle.tink_io.specs.Told.{Answers, made_of}
+use Rattle.tink_io.specs.Answering.{Answers, made_of}
 use Rattle.tink_io.specs.declared.error.Kind.{Kind}
 use Rattle.tink_io.specs.declared.error.TinkError.{TinkError}
 use Rattle.tink_proto.specs.declared.messages.keys.Keyset.{Keyset}

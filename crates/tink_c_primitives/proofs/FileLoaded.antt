@@ -1,6 +1,6 @@
 -- A file that loads, and what is asked of its keys.
 use Rattle.std.proofs.Common.{◌≡◌, ◌⊎◌, inl, inr, ℕ, List, Result, Ok, Err, ap, sym, subst}
-use Rattle.tink_io.specs.Told.{Answers, Replies}
+use Rattle.tink_io.specs.Answering.{Answers, Replies}
 use Rattle.tink_io.specs.declared.error.Kind.{Kind}
 use Rattle.tink_io.specs.declared.error.Kind.TheVariants.{OutOfMemory}
 use Rattle.tink_io.specs.declared.error.TinkError.{TinkError}

@@ -1,6 +1,6 @@
 //! What the primitives of a file of keys answer.
 
-ghost use Rattle.tink_io.specs.Told.{Answers};
+ghost use Rattle.tink_io.specs.Answering.{Answers};
 ghost use Rattle.tink_aead.specs.AeadKinds.{kind_encrypts};
 ghost use Rattle.tink_aead.specs.Wrapped.{primary_encrypts};
 ghost use Rattle.tink_c_bytes.specs.Delivered.{MadeBy};

@@ -1,6 +1,6 @@
 //! The primitives of a file of keys.
 
-ghost use Rattle.tink_io.specs.Told.{Answers};
+ghost use Rattle.tink_io.specs.Answering.{Answers};
 ghost use Rattle.tink_tokens.specs.TokenSteps.{AreLoadedMacs};
 ghost use Rattle.tink_tokens.specs.Tokens.{macs_in};
 ghost use Rattle.tink_c_primitives.specs.Primitives.{ArePrfs, GivesKeys, IsAead, IsDaead, aeads_in, aeads_of, daeads_in, daeads_of, macs_of_file, prfs_in, prfs_of_file, valid_in_file};
@@ -8,7 +8,7 @@ ghost use Rattle.tink_c_primitives.specs.Primitives.{ArePrfs, GivesKeys, IsAead,
 use std::alloc::Global;
 use tink::{Managers, key_managers};
 use tink_aead::{AeadKind, WrappedAead};
-use tink_c_bytes::copied;
+use tink_c_bytes::copy_of;
 use tink_daead::WrappedDeterministicAead;
 use tink_daead::subtle::AesSiv;
 use tink_io::TinkError;
@@ -104,7 +104,7 @@ fn build_prfs(alloc: Global, handle: &Handle) -> Result<Set<PrfKind>, TinkError>
 fn valid_handle(alloc: Global, file: &[u8]) -> Result<Handle, TinkError>
     ensures { Answers result (valid_in_file file.now) }
 {
-    let file = copied(alloc, file)?;
+    let file = copy_of(alloc, file)?;
     let keyset = wire_bytes(alloc, file)?;
     insecure::valid_handle(alloc, keyset.as_slice())
 }

@@ -2,8 +2,8 @@
 use Rattle.std.proofs.Common.{◌≡◌, ◌⊎◌, inl, inr, ℕ, List, [], Some, Result, Ok, Err, ap, refl, sym, subst, ◌∙◌}
 use Rattle.std.specs.Prelude.{IfOk, length}
 use Rattle.tink_rewrap.specs.KeysetRanges.{GivesSlice, KeysetRangeMeans}
-use Rattle.tink_io.specs.Outside.{Outside, Told}
-use Rattle.tink_io.specs.Told.{Answers}
+use Rattle.tink_io.specs.Outside.{Outside, AreKnown}
+use Rattle.tink_io.specs.Answering.{Answers}
 use Rattle.tink_io.specs.declared.error.Kind.{Kind}
 use Rattle.tink_io.specs.declared.error.TinkError.{TinkError}
 use Rattle.tink_keyset_io.specs.Files.{wire_of}
@@ -21,7 +21,7 @@ here source sink = record { left = Some source; read_faults = 0; got = Some sink
 pub begins : (source input : List ℕ) (sink : Growing) → source ≡ input → sink.bytes.items ≡ [] → sink.faults ≡ 0 → here source sink ≡ start_of input
 begins source input sink s b f = λ i. record { left = Some (s i); read_faults = 0; got = Some (b i); write_faults = f i }
 
-pub tells : (source input : List ℕ) (sink : Growing) → source ≡ input → sink.bytes.items ≡ [] → Told (here source sink) input []
+pub tells : (source input : List ℕ) (sink : Growing) → source ≡ input → sink.bytes.items ≡ [] → AreKnown (here source sink) input []
 tells source input sink s b = record { left = ap (λ (x : List ℕ). Some x) s; got = ap (λ (x : List ℕ). Some x) b }
 
 module _ (Whole : List ℕ → List ℕ → List ℕ → List ℕ → Outside → Report → Type 0) (Means : List ℕ → List ℕ → Outside → Outside → Result Report TinkError → Type 0) where
@@ -34,7 +34,7 @@ module _ (Whole : List ℕ → List ℕ → List ℕ → List ℕ → Outside �
 
   pub given : (random input draws left source source' : List ℕ) (sink sink' : Growing) (answer : Result Report TinkError) (result : Result (List ℕ) TinkError)
       → draws ≡ random → source ≡ input → sink.bytes.items ≡ [] → sink.faults ≡ 0 → Means draws left (here source sink) (here source' sink') answer
-      → IfOk answer (λ report. (T G : List ℕ) → Told (here source sink) T G → Whole draws left T G (here source' sink') report)
+      → IfOk answer (λ report. (T G : List ℕ) → AreKnown (here source sink) T G → Whole draws left T G (here source' sink') report)
       → IsTaken answer sink' result → MadeBy (Gives random input) (Refuses random input) result
   given random input draws left source source' sink sink' (Ok report) (Ok output) d s b f means whole taken =
       record {

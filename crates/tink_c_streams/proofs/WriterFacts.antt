@@ -3,7 +3,7 @@ use Rattle.std.proofs.Common.{◌≡◌, ◌≤◌, ◌<◌, ◌+◌, ◌^◌, i
 use Rattle.std.proofs.Math.Seq.{take-append_seam}
 use Rattle.std.proofs.lemmas.List.{length-take, length-take-le}
 use Rattle.std.specs.Prelude.{Option, Result, Err, IfOk, IfErr, MatchResult}
-use Rattle.tink_io.specs.Told.{Answers}
+use Rattle.tink_io.specs.Answering.{Answers}
 use Rattle.tink_io.specs.declared.error.TinkError.{TinkError}
 use Rattle.loading_model.specs.Loading.{Loaded}
 use Rattle.tink_keyset_io.specs.Files.{wire_of}
@@ -20,7 +20,7 @@ use Rattle.tink_io.specs.declared.error.Kind.TheVariants.{Closed, FailedBefore, 
 use Rattle.stream_model.specs.Cut.{chunks, sealed}
 use Rattle.stream_model.specs.Key.{StreamKey, derived_bytes_of, first_room, front, header_length, room, segment_at}
 use Rattle.stream_model.specs.Order.{IsOfKeyset, IsOutputPrefix}
-use Rattle.stream_model.specs.Sealing.{chunk_count, prefix_of, salt_of}
+use Rattle.stream_model.specs.Sealing.{chunk_count, nonce_prefix_of, salt_of}
 use Rattle.stream_model.proofs.SealingFacts.{length-chunks}
 use Rattle.tink_streaming_keys.proofs.DerivedKeys.{derives_nothing}
 use Rattle.tink_streaming_keys.specs.NewStreams.{IsPrepared, NotPrepared}
@@ -52,8 +52,8 @@ front_short k aad draws left bytes seg first later mode number held of p =
     let out : length k.out ≤ 5 = short k.out of.out in
     let derived : k.derived ≤ 32 = elim of.usable.derived [ inl e ↦ omega arith | inr e ↦ omega arith ] in
     let salt : length (salt_of k draws) ≤ 32 = omega (arith, length-take-le k.derived draws (omega (arith, p.drew.enough))) in
-    let prefix : length (prefix_of k draws) ≤ 7 = omega (arith, length-take 7 (drop k.derived draws)) in
-    omega (arith, ap length p.front_is, length-append k.out (header_length k ∷ salt_of k draws ++ prefix_of k draws), length-append (salt_of k draws) (prefix_of k draws), out, salt, prefix)
+    let prefix : length (nonce_prefix_of k draws) ≤ 7 = omega (arith, length-take 7 (drop k.derived draws)) in
+    omega (arith, ap length p.front_is, length-append k.out (header_length k ∷ salt_of k draws ++ nonce_prefix_of k draws), length-append (salt_of k draws) (nonce_prefix_of k draws), out, salt, prefix)
 
 module _ (k : StreamKey) (aad random : List ℕ) (seg : ℕ → Bool → List ℕ → List ℕ) (first later : ℕ) where
   -- a writer of a stream that is prepared has taken no text
@@ -68,7 +68,7 @@ module _ (k : StreamKey) (aad random : List ℕ) (seg : ℕ → Bool → List �
     later_is = p.later_is;
     some = some;
     fits = fits;
-    taken = fresh seg first later (front k (salt_of k random) (prefix_of k random)) m (ap (λ x. x.front) is ∙ p.front_is) (ap (λ x. x.mode) is ∙ p.is_open)
+    taken = fresh seg first later (front k (salt_of k random) (nonce_prefix_of k random)) m (ap (λ x. x.front) is ∙ p.front_is) (ap (λ x. x.mode) is ∙ p.is_open)
         (ap (λ x. x.number) is ∙ p.none_written) (ap (λ x. x.held) is ∙ p.none_held);
   }
 
@@ -84,7 +84,7 @@ module _ (k : StreamKey) (aad random : List ℕ) (seg : ℕ → Bool → List �
     count m piece w =
         ap (λ n. length (chunks n (room k) (text ++ piece))) (sym w.first_is) ∙ ap (λ n. length (chunks first n (text ++ piece))) (sym w.later_is)
         ∙ length-chunks first later (text ++ piece)
-        ∙ ap (λ n. n + 1) (numbers seg first later w.some (omega (arith, w.some, w.fits)) (front k (salt_of k random) (prefix_of k random)) text bytes m piece w.taken)
+        ∙ ap (λ n. n + 1) (numbers seg first later w.some (omega (arith, w.some, w.fits)) (front k (salt_of k random) (nonce_prefix_of k random)) text bytes m piece w.taken)
 
     -- a writer that has taken a piece
     more : (old new : PieceMoment) (piece out : List ℕ) → IsWriting k aad random text bytes seg first later old → out ≡ given seg first later old piece → Took seg first later old new piece
@@ -98,7 +98,7 @@ module _ (k : StreamKey) (aad random : List ℕ) (seg : ℕ → Bool → List �
       later_is = w.later_is;
       some = w.some;
       fits = w.fits;
-      taken = takes_more seg first later w.some (omega (arith, w.some, w.fits)) (front k (salt_of k random) (prefix_of k random)) text bytes old new piece out w.taken is took;
+      taken = takes_more seg first later w.some (omega (arith, w.some, w.fits)) (front k (salt_of k random) (nonce_prefix_of k random)) text bytes old new piece out w.taken is took;
     }
 
     refused_not_ok : (old new : PieceMoment) (piece : List ℕ) (kind : Kind) → PieceRefused seg first later old new piece kind → c_status kind ≡ ok → ⊥
@@ -140,7 +140,7 @@ module _ (k : StreamKey) (aad random : List ℕ) (seg : ℕ → Bool → List �
     pub ends : (old new : PieceMoment) (h : Handed) → IsWriting k aad random text bytes seg first later old → EndMeans seg first later old new h → EndsStream k aad random text bytes h
     ends old new h w (inl g) = λ e.
         let salt = salt_of k random in
-        let prefix = prefix_of k random in
+        let prefix = nonce_prefix_of k random in
         gives_all seg first later w.some (omega (arith, w.some, w.fits)) (front k salt prefix) text bytes old (take h.written h.after) w.taken (taken_is g.bytes h g.filled g.counted ∙ g.gives.0)
         ∙ ap (λ s. front k salt prefix ++ sealed s first later text) w.segments
         ∙ ap (λ n. front k salt prefix ++ sealed (segment_at k w.keys prefix) n later text) w.first_is

@@ -3,7 +3,7 @@ use Rattle.std.specs.Prelude.{◌≡◌, ◌⊎◌, ◌≤◌, ◌<◌, ◌^◌,
 use Rattle.tink_io.specs.declared.error.Kind.{Kind}
 use Rattle.tink_io.specs.declared.error.Kind.TheVariants.{OutOfMemory, RandomFault, UnsupportedHash}
 use Rattle.stream_model.specs.Key.{StreamKey, first_room, front, keys_of, room, segment_at}
-use Rattle.stream_model.specs.Sealing.{chunk_count, drawn, prefix_of, salt_of, stream}
+use Rattle.stream_model.specs.Sealing.{chunk_count, drawn, nonce_prefix_of, salt_of, stream}
 use Rattle.loading_model.specs.Loading.{Loaded}
 use Rattle.tink_keyset_io.specs.Files.{wire_of}
 use Rattle.tink_run.specs.AllKeys.{load}
@@ -18,12 +18,12 @@ pub record IsWriting (k : StreamKey) (aad random text bytes : List ℕ) (seg : �
   pub enough : drawn k ≤ length random
   pub keys : List ℕ
   pub keys_are : keys_of k aad (salt_of k random) ≡ Some keys
-  pub segments : seg ≡ segment_at k keys (prefix_of k random)
+  pub segments : seg ≡ segment_at k keys (nonce_prefix_of k random)
   pub first_is : first ≡ first_room k
   pub later_is : later ≡ room k
   pub some : 0 < first
   pub fits : first ≤ later
-  pub taken : HasTaken seg first later (front k (salt_of k random) (prefix_of k random)) text bytes m
+  pub taken : HasTaken seg first later (front k (salt_of k random) (nonce_prefix_of k random)) text bytes m
 
 -- why there is no writer under a key
 abbrev pub NoWriterUnder : StreamKey → List ℕ → List ℕ → Kind → Type 0
@@ -65,4 +65,4 @@ pub record GoesOn (k : StreamKey) (aad random text bytes piece : List ℕ) (h : 
 
 -- What a call for the last segment tells of a stream: with its output the whole stream was given.
 abbrev pub EndsStream : StreamKey → List ℕ → List ℕ → List ℕ → List ℕ → Handed → Type 0
-EndsStream k aad random text bytes h = h.status ≡ ok → bytes ++ take h.written h.after ≡ stream k aad (salt_of k random) (prefix_of k random) text
+EndsStream k aad random text bytes h = h.status ≡ ok → bytes ++ take h.written h.after ≡ stream k aad (salt_of k random) (nonce_prefix_of k random) text

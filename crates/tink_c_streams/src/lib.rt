@@ -6,5 +6,5 @@ mod lent_at;
 mod streams;
 mod writers;
 
-pub use streams::{moved, range, run_whole};
+pub use streams::{range, rewrap_file, run_whole};
 pub use writers::writer_of;

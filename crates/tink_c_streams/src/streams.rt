@@ -1,7 +1,7 @@
 //! Streams, their texts and ranges, of inputs that are held whole.
 
 ghost use Rattle.std.specs.Prelude.{◌≡◌, ◌<◌};
-ghost use Rattle.tink_io.specs.Told.{Answers};
+ghost use Rattle.tink_io.specs.Answering.{Answers};
 ghost use Rattle.tink_keyset_io.specs.Files.{wire_of};
 ghost use Rattle.tink_c_bytes.specs.Delivered.{MadeBy};
 ghost use Rattle.tink_c_streams.specs.Streams.{GivesRange, IsNoRange, IsRange, Moved, MovedNot, Moves, MovesNot, Ran, RanNot, RefusesRange, Runs, RunsNot, Writes, WritesNot};
@@ -10,7 +10,7 @@ use crate::lent_at::LentAt;
 use std::alloc::Global;
 use std::marker::Brand;
 use std::sync::ledger::{Blank, Ledger};
-use tink_c_bytes::{Growing, copied, draws_of, taken};
+use tink_c_bytes::{Growing, copy_of, draws_of, take_bytes};
 use tink_io::{SureSource, TinkError};
 use tink_keyset_io::key_files::wire_bytes;
 use tink_proto::Bytes;
@@ -37,7 +37,7 @@ pub fn run_whole(
         (RunsNot command file.now associated_data.now random.now input.now) result }
 {
     let wire = wire_in(alloc, file)?;
-    ran(
+    run_in_wire(
         alloc,
         command,
         wire.as_slice(),
@@ -52,7 +52,7 @@ pub fn run_whole(
 /// # Errors
 /// `BadJson` if a file is JSON by its first byte and no keyset; then those of `rewrap` of `tink_rewrap`, without
 /// `WriteFault`.
-pub fn moved(
+pub fn rewrap_file(
     alloc: Global,
     file: &[u8],
     associated_data: &[u8],
@@ -66,7 +66,7 @@ pub fn moved(
 {
     let wire = wire_in(alloc, file)?;
     let into = wire_in(alloc, to)?;
-    rewrapped(
+    rewrap_in_wire(
         alloc,
         wire.as_slice(),
         associated_data,
@@ -109,12 +109,12 @@ pub fn range(
 pub(crate) fn wire_in(alloc: Global, file: &[u8]) -> Result<Bytes, TinkError>
     ensures { Answers result (wire_of file.now) }
 {
-    let file = copied(alloc, file)?;
+    let file = copy_of(alloc, file)?;
     wire_bytes(alloc, file)
 }
 
 // What is made under a keyset in the wire format.
-fn ran(
+fn run_in_wire(
     alloc: Global,
     command: Command,
     wire: &[u8],
@@ -126,7 +126,7 @@ fn ran(
         (WritesNot (RanNot command wire.now associated_data.now random.now input.now)) result }
 {
     let mut draws = draws_of(alloc, random)?;
-    let bytes = copied(alloc, input)?;
+    let bytes = copy_of(alloc, input)?;
     let mut source = SureSource::new(bytes);
     let mut sink = Growing::new(alloc);
     let answer = run(
@@ -138,11 +138,11 @@ fn ran(
         &mut source,
         &mut sink,
     );
-    taken(answer, sink)
+    take_bytes(answer, sink)
 }
 
 // What is made of a move between keysets in the wire format.
-fn rewrapped(
+fn rewrap_in_wire(
     alloc: Global,
     wire: &[u8],
     associated_data: &[u8],
@@ -155,7 +155,7 @@ fn rewrapped(
         (WritesNot (MovedNot wire.now associated_data.now into.now to_associated_data.now random.now input.now)) result }
 {
     let mut draws = draws_of(alloc, random)?;
-    let bytes = copied(alloc, input)?;
+    let bytes = copy_of(alloc, input)?;
     let mut source = SureSource::new(bytes);
     let mut sink = Growing::new(alloc);
     let answer = rewrap(
@@ -168,7 +168,7 @@ fn rewrapped(
         &mut source,
         &mut sink,
     );
-    taken(answer, sink)
+    take_bytes(answer, sink)
 }
 
 // A range under a keyset in the wire format, by a ledger of steps.
@@ -200,5 +200,5 @@ fn range_made<L: Ledger>(
         &mut sink,
         &mut steps,
     );
-    taken(answer, sink)
+    take_bytes(answer, sink)
 }

@@ -10,7 +10,7 @@ ghost use Rattle.tink_cli_words.specs.Forms.{given};
 ghost use Rattle.tink_cli_words.specs.Words.{byte_words};
 
 use crate::claims::is_of_streams;
-use crate::explaining::explained;
+use crate::explaining::explain;
 use crate::over_streams::run_claimed;
 use crate::showing;
 use crate::telling::tell_wrong;
@@ -58,7 +58,7 @@ pub fn run<Y: System, K: Sink, E: Sink>(
         Ok(given) => match command(alloc, system, &given, sink) {
             Ok(()) => 0,
             Err(trouble) => {
-                let trouble = explained(alloc, system, given.action, trouble);
+                let trouble = explain(alloc, system, given.action, trouble);
                 refusal(tell(faults, trouble))
             }
         },

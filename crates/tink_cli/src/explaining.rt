@@ -5,7 +5,7 @@ ghost use Rattle.tink_system.specs.Statuses.{refusal_status, trouble_status};
 
 use std::alloc::Global;
 use tink_cli_jobs::keys::LIMIT;
-use tink_cli_jobs::named;
+use tink_cli_jobs::name_of_file;
 use tink_cli_words::Action;
 use tink_io::Kind;
 use tink_json::Json;
@@ -28,7 +28,7 @@ const LONG_TOKEN: &str =
 /// The same error of a command, with the fault of its file, if a second reading finds one. The faults are a file without
 /// bytes, a rule that the keyset breaks, a wrapped file, one that is not wrapped, and a byte-order mark. Standard input gets its
 /// name. The status stays.
-pub fn explained<'w, Y: System>(
+pub fn explain<'w, Y: System>(
     alloc: Global,
     system: &mut Y,
     action: Action,
@@ -39,14 +39,14 @@ pub fn explained<'w, Y: System>(
     ensures later { Y.faults system.old ≤ Y.faults system.new }
 {
     match trouble {
-        Trouble::Refused(name, kind) => refused(alloc, system, action, name, kind),
+        Trouble::Refused(name, kind) => explain_refusal(alloc, system, action, name, kind),
         Trouble::NoMatch(name, keys) => Trouble::NoMatch(name, shown_name(keys)),
         _ => trouble,
     }
 }
 
 // An error of a file with the fault that is found.
-fn refused<'w, Y: System>(
+fn explain_refusal<'w, Y: System>(
     alloc: Global,
     system: &mut Y,
     action: Action,
@@ -118,7 +118,7 @@ fn file_of<Y: System>(alloc: Global, system: &mut Y, name: &[u8]) -> Option<Vec<
     ensures state { Y.state system.new ≡ Y.state system.old }
     ensures later { Y.faults system.old ≤ Y.faults system.new }
 {
-    let Some(name) = named(Some(name)) else {
+    let Some(name) = name_of_file(Some(name)) else {
         return None;
     };
     if system.is_stream(name) {

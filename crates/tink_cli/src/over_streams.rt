@@ -34,14 +34,14 @@ pub fn run_claimed<Y: System, K: Sink, E: Sink>(
     ensures sink { K.same sink.old sink.new }
     ensures faults { E.same faults.old faults.new }
 {
-    match misplaced(system, words) {
+    match why_misplaced(system, words) {
         Some(wrong) => tell_misplaced(system, words, faults, wrong),
         None => run_on_streams(alloc, system, words, sink, faults),
     }
 }
 
 // Why words that name a file in the place of a keyset spell no command over files.
-fn misplaced<'w, Y: System>(system: &mut Y, words: &'w [Vec<u8>]) -> Option<Wrong<'w>>
+fn why_misplaced<'w, Y: System>(system: &mut Y, words: &'w [Vec<u8>]) -> Option<Wrong<'w>>
     ensures nothing { IfSome result (λ _. SpellNothing (byte_words words.now)) }
     ensures state { Y.state system.new ≡ Y.state system.old }
     ensures later { Y.faults system.old ≤ Y.faults system.new }

@@ -8,12 +8,12 @@ use Rattle.wire_format.specs.Writing.{spelling, field, varint, varint_within}
 use Rattle.tink_io.specs.declared.error.Kind.{Kind}
 use Rattle.tink_io.specs.declared.error.Kind.TheVariants.{BadKeyset}
 use Rattle.tink_io.specs.declared.error.TinkError.{TinkError}
-use Rattle.tink_io.specs.Told.{made_of, or_refused, Answers}
+use Rattle.tink_io.specs.Answering.{made_of, or_refused, Answers}
 use Rattle.tink_proto.specs.Messages.{encrypted_keyset, keyset}
 use Rattle.tink_proto.specs.declared.messages.infos.EncryptedKeyset.{EncryptedKeyset}
 use Rattle.tink_proto.specs.declared.messages.infos.KeysetInfo.{KeysetInfo}
 use Rattle.tink_proto.specs.declared.messages.keys.Keyset.{Keyset}
-use Rattle.keyset_model.specs.Commands.{Command, Maker, Managed, after_all}
+use Rattle.keyset_model.specs.Operations.{Operation, Maker, Managed, after_all}
 use Rattle.keyset_model.specs.Secrets.{keyset_info}
 use Rattle.keyset_model.specs.Spared.{Spares}
 use Rattle.tink_keysets.specs.Encrypted.{by_master, chained, decrypted, handle_of_bytes, with_info}
@@ -65,7 +65,7 @@ made_ciphertext m aad draws ks e is =
 abbrev loaded_entries : Keyset → Result (List (TypedEntry AeadKind)) Kind
 loaded_entries ks = aead_entries url supports builds with_everything.managers ks
 
-opens_later : (makes : Maker) (managed : Managed) (commands : List Command) (es later : List (TypedEntry AeadKind)) (text aad draws ciphertext : List ℕ)
+opens_later : (makes : Maker) (managed : Managed) (commands : List Operation) (es later : List (TypedEntry AeadKind)) (text aad draws ciphertext : List ℕ)
     → All (Spares managed.keyset.primary_key_id) commands → loaded_entries managed.keyset ≡ Ok es → loaded_entries (after_all makes managed commands).keyset ≡ Ok later
     → All (OpensToNoOther kind_decrypts text aad ciphertext) later
     → (primary_encrypts kind_encrypts (entry_of_id managed.keyset.primary_key_id es) text aad draws).0 ≡ Ok ciphertext

@@ -7,7 +7,7 @@ use Rattle.tink_io.specs.declared.error.Kind.TheVariants.{WriteFault}
 use Rattle.tink_io.specs.declared.error.TinkError.{TinkError}
 use Rattle.tink_run.specs.OpenReads.{ReadsNoFurther}
 use Rattle.tink_io.specs.Places.{Ends}
-use Rattle.tink_io.specs.Outside.{Outside, Told}
+use Rattle.tink_io.specs.Outside.{Outside, AreKnown}
 use Rattle.tink_run.specs.Run.{AnswerMeans, IsEarly, LeavesEnds, LeavesSinkItself, WritesNothing}
 use Rattle.tink_run.specs.declared.report.Command.{Command}
 use Rattle.tink_run.specs.declared.report.Report.{Report}
@@ -56,7 +56,7 @@ answered_succeeds report_of reads reads_after writes writes_after (Err e) done =
 -- an Ok has written what is made of the whole input
 pub answered : (Gives : Macs → List ℕ → List ℕ → Type 0) (Refuses : Macs → List ℕ → Kind → Type 0) (keyset : List ℕ) (old new : Outside)
     (answer : Result (Unit {0}) TinkError) → TokenMeans Gives Refuses keyset old new answer
-    → IfOk answer (λ v. (T G : List ℕ) → Told old T G → IsAnsweredWhole Gives Refuses keyset T G new)
+    → IfOk answer (λ v. (T G : List ℕ) → AreKnown old T G → IsAnsweredWhole Gives Refuses keyset T G new)
 answered Gives Refuses keyset old new (Ok v) means = answered_whole Gives Refuses keyset old new means
 answered Gives Refuses keyset old new (Err e) means = tt
 

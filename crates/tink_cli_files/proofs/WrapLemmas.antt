@@ -4,7 +4,7 @@ use Rattle.std.specs.Str.{bytes_eq}
 use Rattle.wire_format.specs.Message.{encoded}
 use Rattle.tink_io.specs.declared.error.Kind.{Kind}
 use Rattle.tink_io.specs.declared.error.TinkError.{TinkError}
-use Rattle.tink_io.specs.Told.{made_of, Answers, IsShort}
+use Rattle.tink_io.specs.Answering.{made_of, Answers, IsShort}
 use Rattle.tink_proto.specs.Messages.{keyset}
 use Rattle.tink_proto.specs.declared.messages.infos.EncryptedKeyset.{EncryptedKeyset}
 use Rattle.tink_proto.specs.declared.messages.keys.Keyset.{Keyset}

@@ -3,11 +3,11 @@ use Rattle.std.specs.Prelude.{◌≡◌, ℕ, List, Result, Ok}
 use Rattle.std.specs.List.{All}
 use Rattle.wire_format.specs.Message.{encoded}
 use Rattle.tink_io.specs.declared.error.Kind.{Kind}
-use Rattle.tink_io.specs.Told.{made_of}
+use Rattle.tink_io.specs.Answering.{made_of}
 use Rattle.tink_proto.specs.Messages.{keyset}
 use Rattle.tink_proto.specs.declared.messages.infos.EncryptedKeyset.{EncryptedKeyset}
 use Rattle.tink_proto.specs.declared.messages.keys.Keyset.{Keyset}
-use Rattle.keyset_model.specs.Commands.{Command, Maker, Managed, after_all}
+use Rattle.keyset_model.specs.Operations.{Operation, Maker, Managed, after_all}
 use Rattle.keyset_model.specs.Spared.{Spares}
 use Rattle.tink_keysets.specs.Encrypted.{chained, decrypted, handle_of_bytes}
 use Rattle.tink_aead.specs.AeadKinds.{kind_decrypts}
@@ -25,7 +25,7 @@ OpensToThis m text aad ciphertext = All (OpensToNoOther kind_decrypts text aad c
 -- its primary id, where none of its keys opens it to another text.
 abbrev pub WrappedOutlives : Type 0
 WrappedOutlives =
-    (makes : Maker) (managed : Managed) (commands : List Command) (m later : MasterKeys) (aad draws : List ℕ) (ks : Keyset) (e : EncryptedKeyset)
+    (makes : Maker) (managed : Managed) (commands : List Operation) (m later : MasterKeys) (aad draws : List ℕ) (ks : Keyset) (e : EncryptedKeyset)
     → All (Spares managed.keyset.primary_key_id) commands → master_in managed.keyset ≡ Ok m
     → master_in (after_all makes managed commands).keyset ≡ Ok later → handle_of_bytes (encoded keyset.write ks) ≡ Ok ks
     → wraps m aad draws ks ≡ Ok e → OpensToThis later (encoded keyset.write ks) aad e.encrypted_keyset

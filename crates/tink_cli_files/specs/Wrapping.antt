@@ -3,7 +3,7 @@ use Rattle.std.specs.Prelude.{ℕ, List, Result, Ok, Err}
 use Rattle.wire_format.specs.Message.{decoded, encoded}
 use Rattle.tink_io.specs.declared.error.Kind.{Kind}
 use Rattle.tink_io.specs.declared.error.Kind.TheVariants.{BadJson, BadKeyset}
-use Rattle.tink_io.specs.Told.{made_of, or_refused}
+use Rattle.tink_io.specs.Answering.{made_of, or_refused}
 use Rattle.tink_json.specs.Messages as json
 use Rattle.tink_json.specs.Written.{encrypted_keyset_value, pretty_text}
 use Rattle.tink_proto.specs.Messages.{encrypted_keyset}

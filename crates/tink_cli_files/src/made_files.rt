@@ -1,7 +1,7 @@
 //! Files of keys are made, grown by a new key, and converted, as bytes.
 
 ghost use Rattle.std.specs.Prelude.{◌≡◌, Ok, Err, MatchResult};
-ghost use Rattle.tink_io.specs.Told.{Answers};
+ghost use Rattle.tink_io.specs.Answering.{Answers};
 ghost use Rattle.tink_keysets.specs.Through.{LeavesDraws};
 ghost use Rattle.tink_cli_files.specs.Masters.{valid_in_file};
 ghost use Rattle.tink_cli_files.specs.Saved.{added_file, converted_file, grown_as, grown_file, grown_keyset, grown_named, growth_of, left_as, left_of_growth, left_of_name, left_of_new, name_of, new_file, rotated_file};
@@ -167,11 +167,11 @@ fn grown_named(
     ensures rest { LeavesDraws result (left_of_name growth keyset.now template.now draws.old) draws.old draws.new }
 {
     let name = name_of(template)?;
-    grown(alloc, keyset, name, growth, draws)
+    grow_keyset(alloc, keyset, name, growth, draws)
 }
 
 // The keyset that bytes spell, with a new key by the template of a name.
-fn grown(
+fn grow_keyset(
     alloc: Global,
     keyset: &[u8],
     name: &str,

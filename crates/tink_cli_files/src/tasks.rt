@@ -2,7 +2,7 @@
 //! payload.
 
 ghost use Rattle.std.specs.Prelude.{◌≡◌, ℕ, List, Some, None, true, false, IfErr, IfOk, OnErr};
-ghost use Rattle.tink_io.specs.Outside.{FaultsStay, outside_of, Told};
+ghost use Rattle.tink_io.specs.Outside.{FaultsStay, outside, outside_of, AreKnown};
 ghost use Rattle.tink_cli_files.specs.Streams.{IsShownWhole, RanAndEnded, Succeeds};
 ghost use Rattle.tink_cli_files.specs.Tasks.{CanDo, IsBeforeReading, IsBeforeWriting, IsDone, LeavesOrMoves};
 ghost use Rattle.tink_cli_files.specs.Tasks.{TaskMeans, answered_as};
@@ -46,18 +46,18 @@ pub fn write_task<S: Source, K: Sink>(
 ) -> Result<Option<Report>, TinkError>
     // Each answer has its cause, and says what stands after it, and how far the source was read where that is bounded.
     ensures means { TaskMeans task.entry keyset.now aad.now draws.old draws.new
-        (outside_of S.left S.faults K.got K.faults source.old sink.old)
-        (outside_of S.left S.faults K.got K.faults source.new sink.new) result }
+        (outside S.Source K.Sink source.old sink.old)
+        (outside S.Source K.Sink source.new sink.new) result }
 
     // Known bytes: exactly what the task makes of the whole input was written.
     ensures ok { IfOk result (λ report. (T G : List ℕ)
-        → Told (outside_of S.left S.faults K.got K.faults source.old sink.old) T G
+        → AreKnown (outside S.Source K.Sink source.old sink.old) T G
         → IsDone task.entry keyset.now aad.now draws.old draws.new T G
-        (outside_of S.left S.faults K.got K.faults source.new sink.new) report) }
+        (outside S.Source K.Sink source.new sink.new) report) }
 
     // Known bytes: where no end fails and the task can be done, it is, or there is no memory.
     ensures succeeds { (T G : List ℕ)
-        → Told (outside_of S.left S.faults K.got K.faults source.old sink.old) T G
+        → AreKnown (outside S.Source K.Sink source.old sink.old) T G
         → CanDo task.entry keyset.now aad.now draws.old T
         → Succeeds (S.faults source.old) (S.faults source.new) (K.faults sink.old) (K.faults sink.new) result }
 
@@ -68,19 +68,19 @@ pub fn write_task<S: Source, K: Sink>(
 
     // A refused move of a stream has chosen a key, or has left the sink itself as it was.
     ensures begun { IfErr result (λ e. LeavesOrMoves task.entry keyset.now aad.now
-        (outside_of S.left S.faults K.got K.faults source.old sink.old) sink.old sink.new) }
-    ensures later { FaultsStay (outside_of S.left S.faults K.got K.faults source.old sink.old)
-        (outside_of S.left S.faults K.got K.faults source.new sink.new) }
+        (outside S.Source K.Sink source.old sink.old) sink.old sink.new) }
+    ensures later { FaultsStay (outside S.Source K.Sink source.old sink.old)
+        (outside S.Source K.Sink source.new sink.new) }
     ensures source { S.same source.old source.new }
     ensures sink { K.same sink.old sink.new }
 {
     match task {
-        Task::Run(command) => reported(run(alloc, command, keyset, aad, draws, source, sink)),
+        Task::Run(command) => with_report(run(alloc, command, keyset, aad, draws, source, sink)),
         Task::Rewrap { to, to_aad } => {
-            reported(rewrap(alloc, keyset, aad, to, to_aad, draws, source, sink))
+            with_report(rewrap(alloc, keyset, aad, to, to_aad, draws, source, sink))
         }
-        Task::Sign => unreported(write_token(alloc, keyset, source, sink)),
-        Task::Verify => unreported(write_payload(alloc, keyset, source, sink)),
+        Task::Sign => without_report(write_token(alloc, keyset, source, sink)),
+        Task::Verify => without_report(write_payload(alloc, keyset, source, sink)),
     }
 }
 
@@ -108,14 +108,14 @@ pub fn save_task<S: Source, P: Place>(
 
     // Known bytes: what is shown is exactly what the task makes of the whole input.
     ensures ok { IfOk result (λ report. IsShownWhole P.got (λ draft value. (T G : List ℕ)
-        → Told (outside_of S.left S.faults P.got P.faults source.old place.old) T G
+        → AreKnown (outside_of S.left S.faults P.got P.faults source.old place.old) T G
         → IsDone task.entry keyset.now aad.now draws.old draws.new T G
         (outside_of S.left S.faults P.got P.faults source.new draft) value)
         (P.replaces place.old) (P.shown place.old) (P.shown place.new) report) }
 
     // Known bytes: where no end fails and the task can be done, it is, or there is no memory.
     ensures succeeds { (T G : List ℕ)
-        → Told (outside_of S.left S.faults P.got P.faults source.old place.old) T G
+        → AreKnown (outside_of S.left S.faults P.got P.faults source.old place.old) T G
         → CanDo task.entry keyset.now aad.now draws.old T
         → Succeeds (S.faults source.old) (S.faults source.new) (P.faults place.old) (P.faults place.new)
         result }
@@ -135,7 +135,7 @@ pub fn save_task<S: Source, P: Place>(
 }
 
 // The answer about a stream.
-fn reported(answer: Result<Report, TinkError>) -> Result<Option<Report>, TinkError>
+fn with_report(answer: Result<Report, TinkError>) -> Result<Option<Report>, TinkError>
     ensures { result ≡ answered_as (λ report. Some report) answer }
 {
     match answer {
@@ -145,7 +145,7 @@ fn reported(answer: Result<Report, TinkError>) -> Result<Option<Report>, TinkErr
 }
 
 // The answer about a token.
-fn unreported(answer: Result<(), TinkError>) -> Result<Option<Report>, TinkError>
+fn without_report(answer: Result<(), TinkError>) -> Result<Option<Report>, TinkError>
     ensures { result ≡ answered_as (λ done. None) answer }
 {
     match answer {

@@ -9,4 +9,4 @@ mod wrapping;
 pub use laws::{law_wrapped_is_unwrapped, law_wrapped_outlives_commands};
 pub(crate) use master::valid_in_file;
 pub use master::{Master, load_master};
-pub use wrapping::{unwrapped, wrapped};
+pub use wrapping::{unwrap_file, wrap_file};

@@ -7,7 +7,7 @@ ghost use Rattle.tink_cli_files.specs.Wrapping.{unspent_file, unwrapped_file, wr
 ghost use Rattle.tink_cli_files.specs.Saved.{Saves};
 
 use crate::saved::save_answer;
-use crate::under_master::{Master, unwrapped, wrapped};
+use crate::under_master::{Master, unwrap_file, wrap_file};
 use std::alloc::Global;
 use tink_io::{Draws, Place, TinkError};
 use tink_keyset_io::key_files::Format;
@@ -16,7 +16,7 @@ use tink_keyset_io::key_files::Format;
 /// associated data.
 ///
 /// # Errors
-/// Those of `wrapped` of `under_master`, and `WriteFault`: what was shown stays.
+/// Those of `wrap_file` of `under_master`, and `WriteFault`: what was shown stays.
 pub fn wrap_keys<P: Place>(
     alloc: Global,
     master: &Master,
@@ -38,7 +38,7 @@ pub fn wrap_keys<P: Place>(
     ensures rest { (m : MasterKeys) → IsMaster m master.now
         → LeavesDraws result (unspent_file m keys.items aad.now draws.old) draws.old draws.new }
 {
-    let made = wrapped(alloc, master, keys, aad, format, draws);
+    let made = wrap_file(alloc, master, keys, aad, format, draws);
     save_answer(place, made)
 }
 
@@ -46,7 +46,7 @@ pub fn wrap_keys<P: Place>(
 /// format.
 ///
 /// # Errors
-/// Those of `unwrapped` of `under_master`, and `WriteFault`: what was shown stays.
+/// Those of `unwrap_file` of `under_master`, and `WriteFault`: what was shown stays.
 pub fn unwrap_keys<P: Place>(
     alloc: Global,
     master: &Master,
@@ -63,6 +63,6 @@ pub fn unwrap_keys<P: Place>(
     ensures gone { P.has_draft place.new ≡ false }
     ensures place { P.rest place.old place.new }
 {
-    let made = unwrapped(alloc, master, file, aad, format);
+    let made = unwrap_file(alloc, master, file, aad, format);
     save_answer(place, made)
 }

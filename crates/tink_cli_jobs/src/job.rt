@@ -45,8 +45,8 @@ pub fn job_of<'w>(line: &Line<'w>) -> Option<Job<'w>>
             None => None,
         },
         new_aad: data_of(line.to_aad()),
-        input: named(line.first()),
-        output: named(line.output()),
+        input: name_of_file(line.first()),
+        output: name_of_file(line.output()),
         is_quiet: line.is_quiet(),
         is_forced: line.is_forced(),
         keeps_output: line.is_no_clobber(),
@@ -75,7 +75,7 @@ pub fn data_of(word: Option<&[u8]>) -> &[u8]
 }
 
 /// A name of a file; a dash is none.
-pub fn named(name: Option<&[u8]>) -> Option<&[u8]>
+pub fn name_of_file(name: Option<&[u8]>) -> Option<&[u8]>
     ensures { option_map (λ s. s.now) result ≡ named (option_map (λ s. s.now) name.entry) }
 {
     match name {
@@ -114,7 +114,7 @@ impl<'w> Job<'w> {
 
 impl<'w> Job<'w> {
     /// An error that is no fault of the system, and the file that it is of.
-    pub fn blamed(&self, kind: Kind) -> Trouble<'w>
+    pub fn trouble_of_kind(&self, kind: Kind) -> Trouble<'w>
         ensures { trouble_status result ≡ refusal_status kind }
     {
         match kind {

@@ -7,9 +7,9 @@ ghost use Rattle.tink_keyset_io.specs.Files.{wire_of};
 ghost use Rattle.tink_keyset_io.specs.declared.key_files.formats.Format.TheVariants.{Binary};
 ghost use Rattle.tink_cli_jobs.specs.Loading.{Fails, Gives, IsMasterOf, RefusesBy, keyset_of, master_of_file, named, plain_keyset, unwrapped_keyset, whole_of, wrapped_keyset};
 
-use crate::job::named;
+use crate::job::name_of_file;
 use std::alloc::Global;
-use tink_cli_files::under_master::{Master, load_master, unwrapped};
+use tink_cli_files::under_master::{Master, load_master, unwrap_file};
 use tink_keyset_io::key_files::{Format, wire_bytes};
 use tink_proto::Bytes;
 use tink_system::{System, Trouble};
@@ -66,7 +66,7 @@ pub fn read_keys<'w, Y: System>(
     ensures state { Y.state system.new ≡ Y.state system.old }
     ensures later { Y.faults system.old ≤ Y.faults system.new }
 {
-    system.read_whole(alloc, named(Some(name)), LIMIT)
+    system.read_whole(alloc, name_of_file(Some(name)), LIMIT)
 }
 
 /// The AEADs of a file of keys, or of standard input.
@@ -182,7 +182,7 @@ fn unwrapped_file<'w>(
     ensures refused { (m : MasterKeys) → IsMaster m master.now
         → IfErr result (RefusesBy (unwrapped_file m file.now words.entry.master_aad.now Binary)) }
 {
-    match unwrapped(alloc, master, file, words.master_aad, Format::Binary) {
+    match unwrap_file(alloc, master, file, words.master_aad, Format::Binary) {
         Ok(keyset) => Ok(keyset),
         Err(e) => Err(Trouble::Refused(words.keys, e.kind)),
     }

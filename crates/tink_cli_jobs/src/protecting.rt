@@ -5,7 +5,7 @@ ghost use Rattle.tink_cli_jobs.specs.Loading.{Fails, Gives, keyset_of};
 ghost use Rattle.tink_cli_jobs.specs.Protecting.{AreSparedBy, AreSparedOthers, Differ, HasNoKeyset, IsNotFor, are_two, has_none, has_some, is_input, is_shared, reads_twice};
 ghost use Rattle.tink_system.specs.Statuses.{trouble_status};
 
-use crate::job::{Job, named};
+use crate::job::{Job, name_of_file};
 use crate::keys::keyset_of;
 use std::alloc::Global;
 use tink_proto::Bytes;
@@ -139,7 +139,7 @@ pub fn spare_keys<'w, Y: System>(system: &mut Y, job: &Job<'w>) -> Result<(), Tr
     ensures cause { OnErr result ((Y.state system.old).is_known ≡ true → AreSparedBy (Y.state system.old) job.now → ⊥) }
     ensures still { system.new ≡ system.old }
 {
-    match spare_file(system, job.output, named(Some(job.keys.keys))) {
+    match spare_file(system, job.output, name_of_file(Some(job.keys.keys))) {
         Ok(()) => spare_others(system, job),
         Err(trouble) => Err(trouble),
     }
@@ -152,8 +152,8 @@ fn spare_others<'w, Y: System>(system: &mut Y, job: &Job<'w>) -> Result<(), Trou
     ensures cause { OnErr result ((Y.state system.old).is_known ≡ true → AreSparedOthers (Y.state system.old) job.now → ⊥) }
     ensures still { system.new ≡ system.old }
 {
-    match spare_file(system, job.output, named(job.keys.master)) {
-        Ok(()) => spare_file(system, job.output, named(job.new_file())),
+    match spare_file(system, job.output, name_of_file(job.keys.master)) {
+        Ok(()) => spare_file(system, job.output, name_of_file(job.new_file())),
         Err(trouble) => Err(trouble),
     }
 }

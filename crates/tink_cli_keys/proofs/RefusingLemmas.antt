@@ -2,7 +2,7 @@
 use Rattle.std.proofs.Common.{◌≡◌, ◌⊎◌, ◌≤◌, arith, inl, inr, ℕ, List, Bool, true, refl, sym, ◌∙◌, subst, ap}
 use Rattle.std.specs.Prelude.{Option, Some, None, Result, Ok, Err, IfErr, IsErrAnd, OnErr, OnOk, option_map, take, drop}
 use Rattle.tink_cli_words.specs.LineRead.{LineRead}
-use Rattle.tink_io.specs.Told.{Answers}
+use Rattle.tink_io.specs.Answering.{Answers}
 use Rattle.tink_io.specs.declared.error.Kind.{Kind}
 use Rattle.tink_io.specs.declared.error.Kind.TheVariants.{OutOfMemory, WriteFault}
 use Rattle.tink_io.specs.declared.error.TinkError.{TinkError}

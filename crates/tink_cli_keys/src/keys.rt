@@ -2,7 +2,7 @@
 
 ghost use Rattle.std.specs.Prelude.{◌≡◌, ◌≤◌, ℕ, List, [], Some, None, true, IfErr, IfOk, OnErr, OnOk};
 ghost use Rattle.tink_io.specs.Faults.{Rose};
-ghost use Rattle.tink_io.specs.Told.{Answers};
+ghost use Rattle.tink_io.specs.Answering.{Answers};
 ghost use Rattle.tink_cli_keys.specs.KeyFiles.{AreListed, IsChanged, IsConverted, IsEdited, IsGrown, IsNew, changed_file, listed_as, listed_file};
 ghost use Rattle.tink_cli_keys.specs.Refusing.{HasConvertCause, HasEditCause, HasGrowCause, HasListCause, HasNewCause, IsCaused, IsMissing, LeavesOut, LeavesOutAs, converted_by, listed_by, made_of_file, new_by};
 ghost use Rattle.tink_cli_keys.specs.Saving.{IsAppended};
@@ -118,11 +118,11 @@ fn lines_of(alloc: Global, file: Vec<u8>, is_json: bool) -> Result<Bytes, TinkEr
     ensures { Answers result (listed_file is_json file.items) }
 {
     let keyset = wire_bytes(alloc, file)?;
-    listed(alloc, keyset.as_slice(), is_json)
+    list_as(alloc, keyset.as_slice(), is_json)
 }
 
 // Those of a keyset in the wire format.
-fn listed(alloc: Global, keyset: &[u8], is_json: bool) -> Result<Bytes, TinkError>
+fn list_as(alloc: Global, keyset: &[u8], is_json: bool) -> Result<Bytes, TinkError>
     ensures { Answers result (listed_as is_json keyset.now) }
 {
     if is_json {
@@ -256,8 +256,8 @@ fn change_in<'w, Y: System>(
     match read_file(alloc, system, path) {
         Ok(file) => {
             let template = template_of(&change);
-            let made = changed(alloc, file, change);
-            let blamed = blamed(&made, template, path);
+            let made = change_file(alloc, file, change);
+            let blamed = name_to_blame(&made, template, path);
             save_in(alloc, system, readable(made), blamed, path, draft)
         }
         Err(trouble) => Err(give_up(alloc, system, path, draft, trouble)),
@@ -289,7 +289,7 @@ fn template_of<'w>(change: &Change<'w>) -> Option<&'w [u8]> {
 }
 
 // What an error is of: the template if no template has its name, and else the file.
-fn blamed<'w>(
+fn name_to_blame<'w>(
     made: &Result<Bytes, TinkError>,
     template: Option<&'w [u8]>,
     path: &'w [u8],
@@ -301,7 +301,7 @@ fn blamed<'w>(
 }
 
 // The file with its change.
-fn changed(alloc: Global, file: Vec<u8>, change: Change<'_>) -> Result<Bytes, TinkError>
+fn change_file(alloc: Global, file: Vec<u8>, change: Change<'_>) -> Result<Bytes, TinkError>
     ensures { Answers result (changed_file change.entry file.items) }
 {
     match change {

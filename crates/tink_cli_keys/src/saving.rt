@@ -2,7 +2,7 @@
 
 ghost use Rattle.std.specs.Prelude.{◌≡◌, ◌⊎◌, ◌≤◌, ◌^◌, ℕ, List, Some, None, true, false, Result, IfErr, IfSome, IsErrAnd, OnErr, OnOk, length, nat_lt};
 ghost use Rattle.tink_io.specs.Faults.{Rose};
-ghost use Rattle.tink_io.specs.Told.{Answers};
+ghost use Rattle.tink_io.specs.Answering.{Answers};
 ghost use Rattle.tink_io.specs.declared.error.Kind.{Kind};
 ghost use Rattle.tink_cli_jobs.specs.Loading.{named};
 ghost use Rattle.tink_cli_jobs.specs.Outputs.{KeepsFiles, KeepsOtherFiles};
@@ -14,7 +14,7 @@ ghost use Rattle.tink_system.specs.Statuses.{refusal_status, trouble_status};
 use std::alloc::Global;
 use tink_cli_files::save_answer;
 use tink_cli_jobs::keys::LIMIT;
-use tink_cli_jobs::{named, put};
+use tink_cli_jobs::{name_of_file, put};
 use tink_io::{Kind, Place, Sink, TinkError};
 use tink_proto::Bytes;
 use tink_system::{End, How, System, Trouble};
@@ -72,7 +72,7 @@ fn save_readable<'w, Y: System, K: Sink>(
     ensures later { Y.faults system.old ≤ Y.faults system.new }
     ensures sink { K.same sink.old sink.new }
 {
-    let Some(name) = named(Some(output)) else {
+    let Some(name) = name_of_file(Some(output)) else {
         return put_made(system, made, blamed, sink);
     };
     match system.begin(name, How::Fresh) {
@@ -148,7 +148,7 @@ pub fn save_in<'w, Y: System>(
     let answer = save_answer(&mut draft, made);
     let reason = system.reason_of_draft(&draft);
     match end_draft(alloc, system, name, draft) {
-        Ok(()) => saved(answer, blamed, name, reason),
+        Ok(()) => end_save(answer, blamed, name, reason),
         Err(trouble) => Err(trouble),
     }
 }
@@ -226,7 +226,7 @@ fn put_made<'w, Y: System, K: Sink>(
 }
 
 // The end of a save, by its answer.
-fn saved<'w>(
+fn end_save<'w>(
     answer: Result<(), TinkError>,
     blamed: &'w [u8],
     name: &'w [u8],

@@ -14,10 +14,10 @@ ghost use Rattle.tink_system.specs.Statuses.{trouble_status};
 use crate::saving::save_new;
 use crate::words::format_of;
 use std::alloc::Global;
-use tink_cli_files::under_master::{Master, unwrapped, wrapped};
+use tink_cli_files::under_master::{Master, unwrap_file, wrap_file};
 use tink_cli_jobs::keys::{master_in, read_keys};
 use tink_cli_jobs::protecting::spare_file;
-use tink_cli_jobs::{DRAWN, data_of, named};
+use tink_cli_jobs::{DRAWN, data_of, name_of_file};
 use tink_cli_words::Line;
 use tink_io::{Draws, Sink};
 use tink_keyset_io::key_files::Format;
@@ -138,7 +138,7 @@ fn wrap_keys<'w, Y: System, K: Sink>(
 {
     match system.draws(alloc, DRAWN) {
         Ok(mut draws) => {
-            let made = wrapped(alloc, master, keys, words.aad, words.format, &mut draws);
+            let made = wrap_file(alloc, master, keys, words.aad, words.format, &mut draws);
             save_new(alloc, system, made, words.input, words.output, sink)
         }
         Err(trouble) => Err(trouble),
@@ -207,7 +207,7 @@ fn unwrap_under<'w, Y: System, K: Sink>(
 {
     match read_keys(alloc, system, words.input) {
         Ok(file) => {
-            let made = unwrapped(alloc, master, &file, words.aad, words.format);
+            let made = unwrap_file(alloc, master, &file, words.aad, words.format);
             save_new(alloc, system, made, words.input, words.output, sink)
         }
         Err(trouble) => Err(trouble),
@@ -283,9 +283,9 @@ fn spare_words<'w, Y: System>(system: &mut Y, words: Words<'w>) -> Result<(), Tr
     ensures cause { OnErr result ((Y.state system.old).is_known ≡ true → AreSparedWords (Y.state system.old) words.entry → ⊥) }
     ensures still { system.new ≡ system.old }
 {
-    let output = named(Some(words.output));
-    match spare_file(system, output, named(Some(words.master))) {
-        Ok(()) => spare_file(system, output, named(Some(words.input))),
+    let output = name_of_file(Some(words.output));
+    match spare_file(system, output, name_of_file(Some(words.master))) {
+        Ok(()) => spare_file(system, output, name_of_file(Some(words.input))),
         Err(trouble) => Err(trouble),
     }
 }

@@ -80,11 +80,11 @@ fn info_of<'w, Y: System, K: Sink>(
 ) -> Result<(), Trouble<'w>>
     ensures sink { K.same sink.old sink.new }
 {
-    counted::<Brand, Y, K>(alloc, system, keyset, job, object, sink, Blank::new(1))
+    inform_by::<Brand, Y, K>(alloc, system, keyset, job, object, sink, Blank::new(1))
 }
 
 // The same by a ledger of steps.
-fn counted<'w, L: Ledger, Y: System, K: Sink>(
+fn inform_by<'w, L: Ledger, Y: System, K: Sink>(
     alloc: Global,
     system: &Y,
     keyset: &[u8],

@@ -93,7 +93,7 @@ fn range_of<'w, Y: System, K: Sink>(
     ensures later { Y.faults system.old ≤ Y.faults system.new }
     ensures sink { K.same sink.old sink.new }
 {
-    counted::<Brand, Y, K>(
+    put_range_by::<Brand, Y, K>(
         alloc,
         system,
         keyset,
@@ -107,7 +107,7 @@ fn range_of<'w, Y: System, K: Sink>(
 }
 
 // The same by a ledger of steps.
-fn counted<'w, L: Ledger, Y: System, K: Sink>(
+fn put_range_by<'w, L: Ledger, Y: System, K: Sink>(
     alloc: Global,
     system: &mut Y,
     keyset: &[u8],
@@ -159,7 +159,7 @@ fn put<'w, L: Ledger, Y: System, K: Sink>(
     ensures sink { K.same sink.old sink.new }
 {
     let answer = run_range(alloc, keyset, job.aad, object, start, length, sink, steps);
-    ended(system, answer, object, job, WRITE_FAULT)
+    end_range(system, answer, object, job, WRITE_FAULT)
 }
 
 // Writes it to a stream or to a file.
@@ -248,7 +248,7 @@ fn put_to_stream<'w, L: Ledger, Y: System>(
                 steps,
             );
             let reason = system.reason_of_stream(&stream);
-            ended(system, answer, object, job, reason)
+            end_range(system, answer, object, job, reason)
         }
         Err(trouble) => Err(trouble),
     }
@@ -283,13 +283,13 @@ fn put_to_draft<'w, L: Ledger, Y: System>(
     );
     let reason = system.reason_of_draft(&draft);
     match system.settle(alloc, output, draft) {
-        Ok(()) => ended(system, answer, object, job, reason),
+        Ok(()) => end_range(system, answer, object, job, reason),
         Err(trouble) => Err(trouble),
     }
 }
 
 // The end of a range by its answer: an error is that of a file, and `reason` is why the output failed, if it did.
-fn ended<'w, Y: System>(
+fn end_range<'w, Y: System>(
     system: &Y,
     answer: Result<u64, TinkError>,
     object: &Y::Object,
@@ -321,6 +321,6 @@ pub fn trouble_of<'w, Y: System>(
             Trouble::Unusable(job.input_name(), system.reason_of_object(object), 11)
         }
         Kind::WriteFault => Trouble::Unusable(job.output_name(), reason, 12),
-        kind => job.blamed(kind),
+        kind => job.trouble_of_kind(kind),
     }
 }

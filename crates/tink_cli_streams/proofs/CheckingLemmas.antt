@@ -4,7 +4,7 @@ use Rattle.std.proofs.lemmas.Bool.{true≢false}
 use Rattle.std.specs.Prelude.{Option, Some, None, Result, Ok, Err, IfErr, IsErrAnd, OnOk, option_map}
 use Rattle.tink_io.specs.Faults.{Rose}
 use Rattle.tink_io.proofs.FaultLemmas.{Rose-earlier}
-use Rattle.tink_io.specs.Outside.{Outside, Told}
+use Rattle.tink_io.specs.Outside.{Outside, AreKnown}
 use Rattle.tink_io.specs.declared.error.Kind.{Kind}
 use Rattle.tink_io.specs.declared.error.TinkError.{TinkError}
 use Rattle.tink_keysets.specs.Encrypted.{chained}
@@ -29,7 +29,7 @@ use Rattle.tink_cli_streams.proofs.PerformingLemmas.{known_given}
 
 -- all of a stream is opened, or there is no memory
 pub opens : (keyset aad : List ℕ) (old : Outside) (reads writes : ℕ) (answer : Result (Option Report) TinkError) (result : Result (Unit {0}) Trouble) → old.got ≡ Some []
-    → ((T G : List ℕ) → Told old T G → CanOpen keyset aad T → Succeeds old.read_faults reads old.write_faults writes answer)
+    → ((T G : List ℕ) → AreKnown old T G → CanOpen keyset aad T → Succeeds old.read_faults reads old.write_faults writes answer)
     → OnOk answer (result ≡ Ok tt) → IfErr answer (λ e. IsErrAnd result (λ t. trouble_status t ≡ refusal_status e.kind))
     → ((old.left ≡ None → ⊥) → Rose old.read_faults reads → ⊥) → (Rose old.write_faults writes → ⊥)
     → IfErr result (λ t. (text : List ℕ) → old.left ≡ Some text → CanOpen keyset aad text → trouble_status t ≡ 10)

@@ -4,7 +4,7 @@ use Rattle.std.specs.Prelude.{Option, Some, None, Result, Ok, Err, IfErr, IfOk, 
 use Rattle.std.specs.Io.KnownBytes.{Appends}
 use Rattle.tink_io.specs.Faults.{Rose}
 use Rattle.tink_io.specs.Memory.{MemoryTaken, SameSink}
-use Rattle.tink_io.specs.Outside.{Outside, Told}
+use Rattle.tink_io.specs.Outside.{Outside, AreKnown}
 use Rattle.tink_io.specs.Places.{Ends, IsShown}
 use Rattle.tink_io.specs.Written.{AppendsPrefix}
 use Rattle.tink_io.specs.declared.error.Kind.{Kind}
@@ -46,8 +46,8 @@ never_long Sign keyset text is long = absurd (cc)
 never_long Verify keyset text is long = long
 
 pub done_unsigned : (task : Task) (keyset aad draws left_draws : List ℕ) (old new : Outside) (result : Result (Option Report) TinkError) → signs task ≡ false
-    → IfOk result (λ report. (T G : List ℕ) → Told old T G → IsDone task keyset aad draws left_draws T G new report)
-    → IfOk result (λ report. (T G : List ℕ) → Told old T G → IsDoneFitting task keyset aad draws left_draws T G new report)
+    → IfOk result (λ report. (T G : List ℕ) → AreKnown old T G → IsDone task keyset aad draws left_draws T G new report)
+    → IfOk result (λ report. (T G : List ℕ) → AreKnown old T G → IsDoneFitting task keyset aad draws left_draws T G new report)
 done_unsigned task keyset aad draws left_draws old new (Ok report) is done = λ T G told. (done T G told, never_long task keyset T is)
 done_unsigned task keyset aad draws left_draws old new (Err e) is done = tt
 
@@ -231,7 +231,7 @@ module _ (keyset aad draws left_draws : List ℕ) (left left_after : Option (Lis
   })
 
   pub put_done : (result : Result (Option Report) TinkError) → IfOk result (λ report. report ≡ None) → OnOk result (Appends got got_after token)
-      → IfOk result (λ report. (T G : List ℕ) → Told Before T G → IsDoneFitting Sign keyset aad draws left_draws T G After report)
+      → IfOk result (λ report. (T G : List ℕ) → AreKnown Before T G → IsDoneFitting Sign keyset aad draws left_draws T G After report)
   put_done (Ok (Some report)) none written = absurd (cc)
   put_done (Ok None) none written = λ T G told.
       let read = of_told (macs_of keyset) (λ macs input. SignsTo macs input token) Before (beside left_after reads_after got writes) T G told holds.of in

@@ -1,7 +1,7 @@
 -- What a task made, where it was put.
 use Rattle.std.proofs.Common.{◌≡◌, ℕ, List, [], Bool, true, false, refl, sym, ◌∙◌, subst, ap}
 use Rattle.std.specs.Prelude.{Option, Some, None, Result, Ok, Err, IfErr, IfOk, IfSome, IsErrAnd, IsSome, OnOk, option_map}
-use Rattle.tink_io.specs.Outside.{Outside, Told}
+use Rattle.tink_io.specs.Outside.{Outside, AreKnown}
 use Rattle.tink_io.specs.declared.error.TinkError.{TinkError}
 use Rattle.tink_run.specs.declared.report.Command.TheVariants.{Open, Seal}
 use Rattle.tink_run.specs.declared.report.Report.{Report}
@@ -34,7 +34,7 @@ got_all Verify keyset aad drawn left text before ends (Some report) done = absur
 -- written to a sink
 pub made_written : (task : Task) (keyset aad drawn left : List ℕ) (old new : Outside) (answer : Result (Option Report) TinkError) (P : TinkError → Trouble → Type 0)
     (result : Result (Unit {0}) Trouble)
-    → IfOk answer (λ report. (T G : List ℕ) → Told old T G → IsDoneFitting task keyset aad drawn left T G new report)
+    → IfOk answer (λ report. (T G : List ℕ) → AreKnown old T G → IsDoneFitting task keyset aad drawn left T G new report)
     → IfErr answer (λ e. IsErrAnd result (P e))
     → OnOk result ((text before : List ℕ) → old.left ≡ Some text → old.got ≡ Some before → Makes task keyset aad drawn text before new.got)
 made_written task keyset aad drawn left old new (Ok report) P (Ok done) ok refused = λ text before reads got. record {
@@ -54,7 +54,7 @@ pub made_shown : {D : Type 0} (got : D → Option (List ℕ)) (task : Task) (key
     (replaces : Bool) (before_shown shown : Option (Option (List ℕ))) (file : Option (List ℕ))
     (answer : Result (Option Report) TinkError) (P : TinkError → Trouble → Type 0) (result : Result (Unit {0}) Trouble)
     → ((d : D) → (after d).got ≡ got d)
-    → IfOk answer (λ report. IsShownWhole got (λ d value. (T G : List ℕ) → Told old T G → IsDoneFitting task keyset aad drawn left T G (after d) value) replaces before_shown shown report)
+    → IfOk answer (λ report. IsShownWhole got (λ d value. (T G : List ℕ) → AreKnown old T G → IsDoneFitting task keyset aad drawn left T G (after d) value) replaces before_shown shown report)
     → IfErr answer (λ e. IsErrAnd result (P e))
     → ((f : Option (List ℕ)) → shown ≡ Some f → file ≡ f)
     → OnOk result ((text before : List ℕ) → old.left ≡ Some text → old.got ≡ Some before → Makes task keyset aad drawn text before file)
@@ -123,7 +123,7 @@ performed task keyset aad drawn keeps input output old middle new got got_after 
 -- all of an input was opened
 pub opened_whole : (keyset aad drawn left : List ℕ) (old new : Outside) (answer : Result (Option Report) TinkError) (P : TinkError → Trouble → Type 0)
     (result : Result (Unit {0}) Trouble) → old.got ≡ Some []
-    → IfOk answer (λ report. (T G : List ℕ) → Told old T G → IsDone (Run Open) keyset aad drawn left T G new report) → IfErr answer (λ e. IsErrAnd result (P e))
+    → IfOk answer (λ report. (T G : List ℕ) → AreKnown old T G → IsDone (Run Open) keyset aad drawn left T G new report) → IfErr answer (λ e. IsErrAnd result (P e))
     → OnOk result ((text : List ℕ) → old.left ≡ Some text → IsOpened keyset aad text)
 opened_whole keyset aad drawn left old new (Ok (Some report)) P (Ok done) none ok refused = λ text reads.
     record { left = left; report = Some report; ends = new; done = ok text [] (record { left = reads; got = none }) }

@@ -2,13 +2,13 @@
 use Rattle.std.proofs.Common.{◌≡◌, ◌⊎◌, ◌≤◌, arith, drop, inl, inr, ℕ, List, [], length, refl, sym, ◌∙◌, subst, ap}
 use Rattle.std.specs.Prelude.{Some, None, Ok, Err}
 use Rattle.tink_io.specs.Faults.{Rose}
-use Rattle.tink_io.specs.Outside.{HasNoFault, Outside, Told}
+use Rattle.tink_io.specs.Outside.{HasNoFault, Outside, AreKnown}
 use Rattle.tink_io.specs.declared.error.Kind.{Kind}
 use Rattle.tink_io.specs.declared.error.Kind.TheVariants.{OutOfMemory, ReadFault, WriteFault, RandomFault, BadKeyset, InvalidKeyset, UnsupportedKeyType, InvalidKey, NoPrimary, WrongPrimitive, UnsupportedHash, TooManySegments, NoMatchingKey, BadSegment, Truncated, InputTooLong}
 use Rattle.tink_io.specs.declared.error.TinkError.{TinkError}
 use Rattle.stream_model.specs.Agree.{joined}
 use Rattle.stream_model.specs.Key.{StreamKey, keys_of}
-use Rattle.stream_model.specs.Sealing.{drawn, longest_part, prefix_of, salt_of}
+use Rattle.stream_model.specs.Sealing.{drawn, longest_part, nonce_prefix_of, salt_of}
 use Rattle.loading_model.specs.Loading.{Loaded, opening_keys}
 use Rattle.tink_run.specs.AllKeys.{load}
 use Rattle.tink_run.specs.OpenAnswers.{OpenMeans, OpenRefused, OpeningRefused}
@@ -110,12 +110,12 @@ seal_stops keyset aad draws left_draws T old new e m left sure can = go e.kind r
         let one : r.loaded ≡ can.loaded = same_loaded keyset r.loaded can.loaded r.loads can.loads in
         absurd (can.derives (subst (λ (l : Loaded). keys_of l.primary aad (salt_of l.primary draws) ≡ None) one r.none))
     go ReadFault same r =
-        absurd (sure (subst (SealingRefused r.loaded.primary aad (salt_of r.loaded.primary draws) (prefix_of r.loaded.primary draws) old new) same r.means).rose)
+        absurd (sure (subst (SealingRefused r.loaded.primary aad (salt_of r.loaded.primary draws) (nonce_prefix_of r.loaded.primary draws) old new) same r.means).rose)
     go WriteFault same r = inr same
     go TooManySegments same r =
         let k : StreamKey = r.loaded.primary in
-        let x : IsTooLong k aad (salt_of k draws) (prefix_of k draws) old new = subst (SealingRefused k aad (salt_of k draws) (prefix_of k draws) old new) same r.means in
-        let all = longest_part k aad (salt_of k draws) (prefix_of k draws) x.text in
+        let x : IsTooLong k aad (salt_of k draws) (nonce_prefix_of k draws) old new = subst (SealingRefused k aad (salt_of k draws) (nonce_prefix_of k draws) old new) same r.means in
+        let all = longest_part k aad (salt_of k draws) (nonce_prefix_of k draws) x.text in
         absurd (sealing_complete keyset aad draws left_draws T [] (seen old []) (seen new all) (record { kind = TooManySegments }) TooManySegments refl (record {
           loaded = r.loaded;
           loads = r.loads;
@@ -138,7 +138,7 @@ module _ (s : Sides) (draws left_draws S : List ℕ) (old new : Outside) (left :
       → Outgrows (OpensWithin (room_under (opening_keys s.from_aad l)) (opening_keys s.from_aad l)) (LeadsUnder (room_under (opening_keys s.from_aad l)) (opening_keys s.from_aad l))
       (HasKey (opening_keys s.from_aad l)) (bytes_under m.primary s.to_aad draws) old new → ⊥
   outgrows_not l m from to enough derives rest x =
-      let all = longest_part m.primary s.to_aad (salt_of m.primary draws) (prefix_of m.primary draws) x.text in
+      let all = longest_part m.primary s.to_aad (salt_of m.primary draws) (nonce_prefix_of m.primary draws) x.text in
       let want = complete s draws left_draws (seen old []) (seen new all) (Err (record { kind = TooManySegments })) (record {
         from_loaded = l;
         from_loads = from;
@@ -215,7 +215,7 @@ module _ (s : Sides) (draws left_draws S : List ℕ) (old new : Outside) (left :
 module _ (Gives : Macs → List ℕ → List ℕ → Type 0) (Refuses : Macs → List ℕ → Kind → Type 0)
     (apart : (macs : Macs) (input output : List ℕ) (kind : Kind) → Gives macs input output → Refuses macs input kind → ⊥)
     (keyset T : List ℕ) (old new : Outside) (left : old.left ≡ Some T) (sure : Rose old.read_faults new.read_faults → ⊥) (can : CanAnswer Gives Refuses keyset T) where
-  told : Told (seen old []) T []
+  told : AreKnown (seen old []) T []
   told = record { left = left; got = refl }
 
   accepted : (kind : Kind) → IsOfInput (macs_of keyset) old new (λ macs input. Refuses macs input kind × LeavesSink old new) → ⊥

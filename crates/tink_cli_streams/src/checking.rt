@@ -12,7 +12,7 @@ ghost use Rattle.tink_run.specs.Run.{CanOpen};
 ghost use Rattle.tink_system.specs.States.{SystemState, content, known_content};
 ghost use Rattle.tink_system.specs.Statuses.{trouble_status};
 
-use crate::performing::ended;
+use crate::performing::end_task;
 use crate::streams::make;
 use std::alloc::Global;
 use tink_cli_files::{Task, write_task};
@@ -132,5 +132,5 @@ fn check_all<'w, Y: System>(
         input,
         &mut nothing,
     );
-    ended(system, answer, input, job, WRITE_FAULT)
+    end_task(system, answer, input, job, WRITE_FAULT)
 }

@@ -7,7 +7,7 @@ ghost use Rattle.tink_cli_files.specs.Streams.{IsShownWhole, RanAndEnded};
 ghost use Rattle.tink_cli_files.specs.declared.tasks.Task.TheVariants.{Sign};
 ghost use Rattle.tink_cli_streams.specs.Fitting.{FittingMeans, HoldsToken, IsDoneFitting, beside, signs, unheld};
 ghost use Rattle.tink_io.specs.Faults.{Rose};
-ghost use Rattle.tink_io.specs.Outside.{FaultsStay, Told, outside_of};
+ghost use Rattle.tink_io.specs.Outside.{FaultsStay, AreKnown, outside, outside_of};
 ghost use Rattle.tink_io.specs.Written.{AppendsPrefix};
 ghost use Rattle.tink_io.specs.declared.error.Kind.TheVariants.{InputTooLong, WriteFault};
 ghost use Rattle.tink_tokens.specs.Inputs.{input_limit};
@@ -35,14 +35,14 @@ pub fn write_fitting<S: Source, K: Sink>(
     sink: &mut K,
 ) -> Result<Option<Report>, TinkError>
     ensures means { FittingMeans task.entry keyset.now aad.now draws.old draws.new
-        (outside_of S.left S.faults K.got K.faults source.old sink.old)
-        (outside_of S.left S.faults K.got K.faults source.new sink.new) result }
+        (outside S.Source K.Sink source.old sink.old)
+        (outside S.Source K.Sink source.new sink.new) result }
     ensures ok { IfOk result (λ report. (T G : List ℕ)
-        → Told (outside_of S.left S.faults K.got K.faults source.old sink.old) T G
+        → AreKnown (outside S.Source K.Sink source.old sink.old) T G
         → IsDoneFitting task.entry keyset.now aad.now draws.old draws.new T G
-        (outside_of S.left S.faults K.got K.faults source.new sink.new) report) }
-    ensures later { FaultsStay (outside_of S.left S.faults K.got K.faults source.old sink.old)
-        (outside_of S.left S.faults K.got K.faults source.new sink.new) }
+        (outside S.Source K.Sink source.new sink.new) report) }
+    ensures later { FaultsStay (outside S.Source K.Sink source.old sink.old)
+        (outside S.Source K.Sink source.new sink.new) }
     ensures source { S.same source.old source.new }
     ensures sink { K.same sink.old sink.new }
 {
@@ -74,14 +74,14 @@ fn write_token<S: Source, K: Sink>(
 ) -> Result<Option<Report>, TinkError>
     requires { signs task ≡ true }
     ensures means { FittingMeans task.entry keyset.now aad.now draws.old draws.new
-        (outside_of S.left S.faults K.got K.faults source.old sink.old)
-        (outside_of S.left S.faults K.got K.faults source.new sink.new) result }
+        (outside S.Source K.Sink source.old sink.old)
+        (outside S.Source K.Sink source.new sink.new) result }
     ensures ok { IfOk result (λ report. (T G : List ℕ)
-        → Told (outside_of S.left S.faults K.got K.faults source.old sink.old) T G
+        → AreKnown (outside S.Source K.Sink source.old sink.old) T G
         → IsDoneFitting task.entry keyset.now aad.now draws.old draws.new T G
-        (outside_of S.left S.faults K.got K.faults source.new sink.new) report) }
-    ensures later { FaultsStay (outside_of S.left S.faults K.got K.faults source.old sink.old)
-        (outside_of S.left S.faults K.got K.faults source.new sink.new) }
+        (outside S.Source K.Sink source.new sink.new) report) }
+    ensures later { FaultsStay (outside S.Source K.Sink source.old sink.old)
+        (outside S.Source K.Sink source.new sink.new) }
     ensures source { S.same source.old source.new }
     ensures sink { K.same sink.old sink.new }
 {
@@ -196,7 +196,7 @@ pub fn save_fitting<S: Source, P: Place>(
         (outside_of S.left S.faults P.got P.faults source.new draft) answer)
         (P.replaces place.old) (P.shown place.old) (P.shown place.new) (P.faults place.new) result }
     ensures ok { IfOk result (λ report. IsShownWhole P.got (λ draft value. (T G : List ℕ)
-        → Told (outside_of S.left S.faults P.got P.faults source.old place.old) T G
+        → AreKnown (outside_of S.left S.faults P.got P.faults source.old place.old) T G
         → IsDoneFitting task.entry keyset.now aad.now draws.old draws.new T G
         (outside_of S.left S.faults P.got P.faults source.new draft) value)
         (P.replaces place.old) (P.shown place.old) (P.shown place.new) report) }

@@ -165,7 +165,7 @@ fn put<'w, Y: System, K: Sink>(
     ensures sink { K.same sink.old sink.new }
 {
     let answer = write_fitting(alloc, task, keyset, job.aad, draws, input, sink);
-    ended(system, answer, &input.source, job, WRITE_FAULT)
+    end_task(system, answer, &input.source, job, WRITE_FAULT)
 }
 
 // Writes it to a stream or to a file.
@@ -215,7 +215,7 @@ fn put_to_stream<'w, Y: System>(
         Ok(mut stream) => {
             let answer = write_fitting(alloc, task, keyset, job.aad, draws, input, &mut stream);
             let reason = system.reason_of_stream(&stream);
-            ended(system, answer, &input.source, job, reason)
+            end_task(system, answer, &input.source, job, reason)
         }
         Err(trouble) => Err(trouble),
     }
@@ -278,7 +278,7 @@ fn put_to_draft<'w, Y: System>(
     let answer = save_fitting(alloc, task, keyset, job.aad, draws, input, &mut draft);
     let reason = system.reason_of_draft(&draft);
     match system.settle(alloc, output, draft) {
-        Ok(()) => ended(system, answer, &input.source, job, reason),
+        Ok(()) => end_task(system, answer, &input.source, job, reason),
         Err(trouble) => Err(trouble),
     }
 }
@@ -288,7 +288,7 @@ fn put_to_draft<'w, Y: System>(
 /// # Errors
 /// That of the task, by its status: 11 if the input failed, 12 if the output failed, else the status of the error's
 /// kind.
-pub fn ended<'w, Y: System>(
+pub fn end_task<'w, Y: System>(
     system: &Y,
     answer: Result<Option<Report>, TinkError>,
     input: &Y::Input,
@@ -308,7 +308,7 @@ pub fn ended<'w, Y: System>(
                 11,
             ),
             Kind::WriteFault => Trouble::Unusable(job.output_name(), reason, 12),
-            kind => job.blamed(kind),
+            kind => job.trouble_of_kind(kind),
         }),
     }
 }

@@ -172,12 +172,17 @@ fn rewrap_to<'w, Y: System, K: Sink>(
     }
     match perform(alloc, system, task, keyset.as_slice(), job, sink) {
         Ok(()) => Ok(()),
-        Err(trouble) => Err(blamed(alloc, keyset.as_slice(), job, trouble)),
+        Err(trouble) => Err(blame_new_keys(alloc, keyset.as_slice(), job, trouble)),
     }
 }
 
 // The error of a move, and the file that it is of: that of the new keys, if the first keyset loads.
-fn blamed<'w>(alloc: Global, keyset: &[u8], job: &Job<'w>, trouble: Trouble<'w>) -> Trouble<'w>
+fn blame_new_keys<'w>(
+    alloc: Global,
+    keyset: &[u8],
+    job: &Job<'w>,
+    trouble: Trouble<'w>,
+) -> Trouble<'w>
     ensures { trouble_status result ≡ trouble_status trouble.entry }
 {
     match (trouble, job.new_file()) {
@@ -242,7 +247,7 @@ fn spare_terminal<'w, Y: System>(
     match job.output {
         None => {
             if system.is_terminal(End::Output) {
-                return Err(unforced(
+                return Err(refuse_unforced(
                     b"standard output",
                     "it is a terminal, and ciphertext is no text: give -o OUT, redirect it, or force it by --force",
                 ));
@@ -250,7 +255,7 @@ fn spare_terminal<'w, Y: System>(
         }
         Some(output) => {
             if system.leads_to_terminal(output) {
-                return Err(unforced(
+                return Err(refuse_unforced(
                     output,
                     "it is a terminal, and ciphertext is no text: name a file, or force it by --force",
                 ));
@@ -261,7 +266,7 @@ fn spare_terminal<'w, Y: System>(
 }
 
 // The refusal of an output that has to be forced.
-fn unforced<'w>(output: &'w [u8], why: &'static str) -> Trouble<'w>
+fn refuse_unforced<'w>(output: &'w [u8], why: &'static str) -> Trouble<'w>
     ensures { trouble_status result ≡ 12 }
 {
     Trouble::Unusable(output, why, 12)

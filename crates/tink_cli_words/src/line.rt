@@ -284,10 +284,10 @@ fn unreadable<'w>(action: Action, texts: &Texts<'w>) -> Option<Why<'w>>
 fn no_such_value<'w>(texts: &Texts<'w>) -> Option<Why<'w>>
     ensures { result ≡ no_such_value texts.now }
 {
-    if let Some(word) = unread(texts.format, format_of(texts.format).is_some()) {
+    if let Some(word) = unread_text(texts.format, format_of(texts.format).is_some()) {
         return Some(Why::NoSuchValue(OptionName::Format, word));
     }
-    match unread(texts.prefix, prefix_of(texts.prefix).is_some()) {
+    match unread_text(texts.prefix, prefix_of(texts.prefix).is_some()) {
         Some(word) => Some(Why::NoSuchValue(OptionName::Prefix, word)),
         None => None,
     }
@@ -297,10 +297,10 @@ fn no_such_value<'w>(texts: &Texts<'w>) -> Option<Why<'w>>
 fn no_number<'w>(texts: &Texts<'w>) -> Option<Why<'w>>
     ensures { result ≡ no_number texts.now }
 {
-    if let Some(word) = unread(texts.start, number_of(texts.start).is_some()) {
+    if let Some(word) = unread_text(texts.start, number_of(texts.start).is_some()) {
         return Some(Why::NoNumber(OptionName::Start, word));
     }
-    match unread(texts.length, number_of(texts.length).is_some()) {
+    match unread_text(texts.length, number_of(texts.length).is_some()) {
         Some(word) => Some(Why::NoNumber(OptionName::Length, word)),
         None => None,
     }
@@ -311,18 +311,18 @@ fn no_such_operand<'w>(action: Action, texts: &Texts<'w>) -> Option<Why<'w>>
     ensures { result ≡ no_such_operand action texts.now }
 {
     let id = id_text(action, texts);
-    if let Some(word) = unread(id, id_of(id).is_some()) {
+    if let Some(word) = unread_text(id, id_of(id).is_some()) {
         return Some(Why::NoId(word));
     }
     let topic = topic_text(action, texts);
-    match unread(topic, topic_of(topic).is_some()) {
+    match unread_text(topic, topic_of(topic).is_some()) {
         Some(word) => Some(Why::UnknownCommand(word)),
         None => None,
     }
 }
 
 // A text that is not read.
-fn unread<'w>(text: Option<&'w [u8]>, is_read: bool) -> Option<Word<'w>>
+fn unread_text<'w>(text: Option<&'w [u8]>, is_read: bool) -> Option<Word<'w>>
     ensures { result ≡ unread (option_map (λ s. s.now) text.entry) is_read }
 {
     match text {

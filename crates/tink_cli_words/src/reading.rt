@@ -98,7 +98,7 @@ pub(crate) fn read<'w>(action: Action, words: &'w [Vec<u8>]) -> Result<Texts<'w>
             Err(why) => return Err(why),
         }
     }
-    texts.ended()
+    texts.finish()
 }
 
 impl<'w> Texts<'w> {
@@ -157,13 +157,13 @@ impl<'w> Texts<'w> {
             return Ok(Meaning::EndOfOptions);
         }
         match OptionName::of_name(word) {
-            Some(option) => self.named(action, option, word),
-            None => self.assigned(action, word),
+            Some(option) => self.meaning_of(action, option, word),
+            None => self.meaning_with_equals(action, word),
         }
     }
 
     // What the word of an option says.
-    fn named(
+    fn meaning_of(
         &self,
         action: Action,
         option: OptionName,
@@ -171,7 +171,7 @@ impl<'w> Texts<'w> {
     ) -> Result<Meaning<'w>, Why<'w>>
         ensures { result ≡ named action self.now option word.now }
     {
-        match self.allowed(action, option) {
+        match self.check_allowed(action, option) {
             Ok(()) if option.has_value() => Ok(Meaning::Awaits(option, Word::new(word))),
             Ok(()) => Ok(Meaning::Flag(option)),
             Err(why) => Err(why),
@@ -179,7 +179,7 @@ impl<'w> Texts<'w> {
     }
 
     // Whether an option may be given here, or why not.
-    fn allowed(&self, action: Action, option: OptionName) -> Result<(), Why<'w>>
+    fn check_allowed(&self, action: Action, option: OptionName) -> Result<(), Why<'w>>
         ensures { result ≡ allowed action self.now option }
     {
         if !action.takes(option) {
@@ -192,7 +192,7 @@ impl<'w> Texts<'w> {
     }
 
     // What a word says that may be the long word of an option, `=` and its value.
-    fn assigned(&self, action: Action, word: &'w [u8]) -> Result<Meaning<'w>, Why<'w>>
+    fn meaning_with_equals(&self, action: Action, word: &'w [u8]) -> Result<Meaning<'w>, Why<'w>>
         ensures { result ≡ assigned action self.now word.now }
     {
         if !is_long(word) {
@@ -217,7 +217,7 @@ impl<'w> Texts<'w> {
     ) -> Result<Meaning<'w>, Why<'w>>
         ensures { result ≡ with_equals action self.now option word.now value.now }
     {
-        match self.allowed(action, option) {
+        match self.check_allowed(action, option) {
             Ok(()) if option.has_value() => Ok(Meaning::Value(option, Word::new(value))),
             Ok(()) => Err(Why::TakesNoValue(Word::new(word))),
             Err(why) => Err(why),
@@ -313,7 +313,7 @@ impl<'w> Texts<'w> {
     }
 
     // What all words say, where no value is to come.
-    fn ended(self) -> Result<Texts<'w>, Why<'w>>
+    fn finish(self) -> Result<Texts<'w>, Why<'w>>
         ensures { result ≡ ended self.entry }
     {
         match self.next {

@@ -2,7 +2,7 @@
 
 ghost use Rattle.std.specs.Prelude.{◌≡◌, ◌↔◌, ◌<◌, ◌*◌, Ok, IsTrue, length, option_map};
 ghost use Rattle.hash_keys.specs.Hash.{digest_size, hash_of};
-ghost use Rattle.tink_io.specs.Told.{Answers, Tells};
+ghost use Rattle.tink_io.specs.Answering.{Answers, Tells};
 ghost use Rattle.tink_core_subtle.specs.Hashes.{derived, hash_named, is_sha224, size_told};
 
 use hash_keys::{Hash, hkdf_into};

@@ -2,7 +2,7 @@
 
 ghost use Rattle.std.specs.Prelude.{◌≡◌, ◌↔◌, ◌<◌, length, take, drop, IsErr, IfOk, OnOk, OnErr, IfErr};
 ghost use Rattle.std.specs.Int.{w32, from_be_bytes};
-ghost use Rattle.tink_io.specs.Told.{Replies};
+ghost use Rattle.tink_io.specs.Answering.{Replies};
 ghost use Rattle.tink_io.specs.declared.error.Kind.TheVariants.{RandomFault};
 ghost use Rattle.tink_core_subtle.specs.Random.{takes_bytes};
 

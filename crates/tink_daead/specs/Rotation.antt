@@ -9,7 +9,7 @@ use Rattle.tink_primitives.specs.declared.primitive.Primitive.{Primitive}
 use Rattle.tink_primitives.specs.declared.primitive.Primitive.TheVariants.{DeterministicAead}
 use Rattle.tink_sets.specs.Entries.{entry_of_id}
 use Rattle.tink_sets.specs.declared.entry.TypedEntry.{TypedEntry}
-use Rattle.keyset_model.specs.Commands.{Command, Maker, Managed, after_all}
+use Rattle.keyset_model.specs.Operations.{Operation, Maker, Managed, after_all}
 use Rattle.keyset_model.specs.Keys.{enabled}
 use Rattle.keyset_model.specs.Spared.{Spares}
 use Rattle.tink_keysets.specs.Accepting.{entries_of}
@@ -52,7 +52,7 @@ module _ {P : Type 0} (encrypts : P → List ℕ → List ℕ → Result (List �
     abbrev pub TextsOutlive : Type 0
     TextsOutlive =
         BuildsSoundDaeads builds
-        → (makes : Maker) (managers : List R) (m : Managed) (commands : List Command) (es later : List (TypedEntry P)) (text aad input : List ℕ)
+        → (makes : Maker) (managers : List R) (m : Managed) (commands : List Operation) (es later : List (TypedEntry P)) (text aad input : List ℕ)
         → All (Spares m.keyset.primary_key_id) commands → daead_entries url supports builds managers m.keyset ≡ Ok es
         → daead_entries url supports builds managers (after_all makes m commands).keyset ≡ Ok later
         → primary_encrypts encrypts (entry_of_id m.keyset.primary_key_id es) text aad ≡ Ok input

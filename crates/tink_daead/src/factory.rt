@@ -1,7 +1,7 @@
 //! The deterministic AEADs of a keyset as one.
 
 ghost use Rattle.std.specs.Prelude.{◌≡◌, None, true, is_some, IfOk, IfErr};
-ghost use Rattle.tink_io.specs.Told.{Answers};
+ghost use Rattle.tink_io.specs.Answering.{Answers};
 ghost use Rattle.tink_io.specs.declared.error.Kind.TheVariants.{OutOfMemory};
 ghost use Rattle.tink_primitives.specs.Sorts.{as_deterministic_aead};
 ghost use Rattle.tink_sets.specs.Entries.{entry_of};

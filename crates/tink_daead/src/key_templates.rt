@@ -1,7 +1,7 @@
 //! The template of AES-SIV keys.
 
 ghost use Rattle.std.specs.Prelude.{Ok};
-ghost use Rattle.tink_io.specs.Told.{Answers};
+ghost use Rattle.tink_io.specs.Answering.{Answers};
 ghost use Rattle.tink_daead.specs.KeyTypes.{aes_siv_template};
 
 use crate::aes_siv_key_manager::{AES_SIV_KEY_VERSION, AES_SIV_TYPE_URL};

@@ -3,7 +3,7 @@ pub mod Memory
 pub mod MemoryLaws
 pub mod Taken
 pub mod Texts
-pub mod Told
+pub mod Answering
 pub mod Written
 pub mod Gathering
 pub mod Places

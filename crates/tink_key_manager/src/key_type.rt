@@ -1,7 +1,7 @@
 //! The keys of one type.
 
 ghost use Rattle.std.specs.Prelude.{◌≡◌, ℕ, List, Result};
-ghost use Rattle.tink_io.specs.Told.{Answers, Replies};
+ghost use Rattle.tink_io.specs.Answering.{Answers, Replies};
 ghost use Rattle.tink_io.specs.declared.error.Kind.{Kind};
 ghost use Rattle.tink_primitives.specs.Meaning.{IsTold, IsDrawn};
 ghost use Rattle.tink_primitives.specs.declared.primitive.Primitive.{Primitive};

@@ -1,7 +1,7 @@
 //! The manager of a type of keys.
 
 ghost use Rattle.std.specs.Prelude.{◌≡◌, Ok, Err, false, bytes_eq};
-ghost use Rattle.tink_io.specs.Told.{Answers, Replies};
+ghost use Rattle.tink_io.specs.Answering.{Answers, Replies};
 ghost use Rattle.tink_io.specs.declared.error.Kind.TheVariants.{NoPrivateKeys};
 ghost use Rattle.tink_proto.specs.declared.enums.KeyMaterialType.TheVariants.{Symmetric};
 ghost use Rattle.tink_key_manager.specs.Manager.{builds, makes, makes_data, message_of, new_message};

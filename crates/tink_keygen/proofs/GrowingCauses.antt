@@ -1,7 +1,7 @@
 -- Why a key is not added beside the primary one, none of the same primitive is made, and none with another output prefix, where draws suffice.
 use Rattle.std.proofs.Common.{◌≡◌, ◌⊎◌, ◌≤◌, ℕ, ℤ, List, Bool, true, false, Option, Some, None, Ok, Err, Result, ap, arith, inl, inr, length, refl}
 use Rattle.std.specs.Prelude.{cond, IfErr}
-use Rattle.tink_io.specs.Told.{Answers}
+use Rattle.tink_io.specs.Answering.{Answers}
 use Rattle.tink_io.specs.declared.error.Kind.{Kind}
 use Rattle.tink_io.specs.declared.error.Kind.TheVariants.{NoPrimary, OutOfMemory, UnknownPrefix, UnknownTemplate, WrongPrimitive}
 use Rattle.tink_io.specs.declared.error.TinkError.{TinkError}

@@ -5,14 +5,14 @@ use Rattle.std.specs.Prelude.{IfErr, IfOk}
 use Rattle.tink_io.specs.declared.error.Kind.{Kind}
 use Rattle.tink_io.specs.declared.error.Kind.TheVariants.{NoFreshId, OutOfMemory, UnknownTemplate, UnknownPrefix}
 use Rattle.tink_io.specs.declared.error.TinkError.{TinkError}
-use Rattle.tink_io.specs.Told.{Answers, IsShort}
+use Rattle.tink_io.specs.Answering.{Answers, IsShort}
 use Rattle.tink_proto.specs.declared.messages.keys.KeyData.{KeyData}
 use Rattle.tink_proto.specs.declared.messages.keys.KeyTemplate.{KeyTemplate}
 use Rattle.tink_proto.specs.declared.messages.keys.Keyset.{Keyset}
 use Rattle.keyset_model.specs.Adding.{added, keyset_reply, reply, Added}
 use Rattle.keyset_model.specs.Adding as adding
 use Rattle.keyset_model.specs.Entries.{is_known_prefix}
-use Rattle.keyset_model.specs.Validity.{are_well_formed, has_a_primary, is_held_keyset, is_valid, is_validated, IsValid, MayBeHeld}
+use Rattle.keyset_model.specs.Validity.{are_well_formed, has_a_primary, is_held_keyset, is_valid, is_validated, IsValid, FitsHandle}
 use Rattle.keyset_model.proofs.EditLaws.{joined}
 use Rattle.tink_registry.specs.Listed.{manager_of, template_of, Registered}
 use Rattle.tink_keysets.specs.Encrypted.{chained}
@@ -125,7 +125,7 @@ copied told ks h (Err e) is same copy want = inl (ap (λ (x : TinkError). x.kind
 
 -- it is valid, where each keyset that is made so is
 pub copied_valid : (p : Bool) (ks new h : Keyset) (kt : KeyTemplate) (draws : List ℕ) (result : Result Keyset TinkError) → MakesValid p kt draws ks
-    → grown p kt draws ks ≡ Ok new → h ≡ new → IfOk result (λ x. x ≡ h) → IfOk result MayBeHeld → IfOk result IsValid
+    → grown p kt draws ks ≡ Ok new → h ≡ new → IfOk result (λ x. x ≡ h) → IfOk result FitsHandle → IfOk result IsValid
 copied_valid p ks new h kt draws (Ok x) makes is same copy held = makes x (is ∙ ap (λ (y : Keyset). Ok y) (sym (copy ∙ same))) held
 copied_valid p ks new h kt draws (Err e) makes is same copy held = tt
 

@@ -4,7 +4,7 @@ ghost use Rattle.std.specs.List.{list_any};
 ghost use Rattle.std.specs.Prelude.{◌≡◌, ◌⊎◌, ◌≤◌, IfErr, IfOk, Ok, length};
 ghost use Rattle.keyset_model.specs.Keys.{is_enabled, is_enabled_with};
 ghost use Rattle.keyset_model.specs.Validity.{IsValid, has_a_primary};
-ghost use Rattle.tink_io.specs.Told.{Answers};
+ghost use Rattle.tink_io.specs.Answering.{Answers};
 ghost use Rattle.tink_io.specs.declared.error.Kind.TheVariants.{OutOfMemory};
 ghost use Rattle.tink_keygen.specs.Growing.{IsNotAdded, IsNotAlike, IsNotPrefixed, are_one, grown_beside, grown_beside_by};
 ghost use Rattle.tink_keygen.specs.Growing.{is_alike, is_unlike, left_alike, left_alike_by, left_beside, left_beside_by};
@@ -13,7 +13,7 @@ ghost use Rattle.tink.specs.Registered.{with_everything};
 ghost use Rattle.tink_keysets.specs.Through.{LeavesDraws};
 ghost use Rattle.tink_keysets.specs.Valid.{valid_keyset};
 
-use crate::{named, with_new_key};
+use crate::{template_by_name, with_new_key};
 use std::alloc::Global;
 use tink::{Managers, registry};
 use tink_io::{Draws, Kind, TinkError};
@@ -54,7 +54,7 @@ fn grow_beside(
     ensures valid { IfOk result IsValid }
 {
     let registry = registry(alloc)?;
-    let kt = named(&registry, template)?;
+    let kt = template_by_name(&registry, template)?;
     let handle = insecure::valid_handle(alloc, keyset)?;
     with_further_key(alloc, handle, kt, &registry, draws)
 }
@@ -137,7 +137,7 @@ fn grow_alike(
     ensures valid { IfOk result IsValid }
 {
     let registry = registry(alloc)?;
-    let kt = named(&registry, template)?;
+    let kt = template_by_name(&registry, template)?;
     let handle = insecure::valid_handle(alloc, keyset)?;
     with_like_key(alloc, handle, kt, &registry, draws)
 }
@@ -202,7 +202,7 @@ fn make_prefixed(
     ensures valid { IfOk result IsValid }
 {
     let registry = registry(alloc)?;
-    let kt = named(&registry, template)?;
+    let kt = template_by_name(&registry, template)?;
     let kt = with_prefix(alloc, kt, prefix)?;
     with_new_key(alloc, Manager::new(alloc), &kt, &registry, draws, true)
 }

@@ -3,7 +3,7 @@
 
 ghost use Rattle.std.specs.Prelude.{◌≡◌, ◌⊎◌, ◌≤◌, None, Some, Ok, IfOk, IfErr, IsTrue, MatchResult, false, length, true};
 ghost use Rattle.tink_io.specs.declared.error.Kind.TheVariants.{OutOfMemory, UnknownTemplate};
-ghost use Rattle.tink_io.specs.Told.{Answers};
+ghost use Rattle.tink_io.specs.Answering.{Answers};
 ghost use Rattle.keyset_model.specs.Validity.{IsValid, are_well_formed, has_a_primary};
 ghost use Rattle.tink_keysets.specs.Managed.{no_keys};
 ghost use Rattle.tink_keygen.specs.NamedTemplates.{template_named};
@@ -87,7 +87,7 @@ fn new_keyset(alloc: Global, template: &str, draws: &mut Draws) -> Result<Keyset
     ensures valid { IfOk result IsValid }
 {
     let registry = registry(alloc)?;
-    let kt = named(&registry, template)?;
+    let kt = template_by_name(&registry, template)?;
     with_new_key(alloc, Manager::new(alloc), kt, &registry, draws, true)
 }
 
@@ -103,7 +103,7 @@ fn rotated_keyset(
     ensures valid { IfOk result IsValid }
 {
     let registry = registry(alloc)?;
-    let kt = named(&registry, template)?;
+    let kt = template_by_name(&registry, template)?;
     let handle = insecure::valid_handle(alloc, keyset)?;
     with_new_key(
         alloc,
@@ -116,7 +116,10 @@ fn rotated_keyset(
 }
 
 // The registered template of a name.
-fn named<'r>(registry: &'r Registry<Managers>, name: &str) -> Result<&'r KeyTemplate, TinkError>
+fn template_by_name<'r>(
+    registry: &'r Registry<Managers>,
+    name: &str,
+) -> Result<&'r KeyTemplate, TinkError>
     requires { registry.now ≡ with_everything }
     ensures { MatchResult result (λ kt. template_named name.now ≡ Some kt.now)
         (λ e. (e.kind ≡ UnknownTemplate) × (template_named name.now ≡ None)) }

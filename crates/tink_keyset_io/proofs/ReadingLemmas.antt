@@ -9,7 +9,7 @@ use Rattle.tink_io.specs.declared.error.Kind.{Kind}
 use Rattle.tink_io.specs.declared.error.Kind.TheVariants.{KeysetTooLong}
 use Rattle.tink_io.specs.declared.error.TinkError.{TinkError}
 use Rattle.tink_io.proofs.FaultLemmas.{Rose-earlier}
-use Rattle.tink_io.specs.Told.{or_refused}
+use Rattle.tink_io.specs.Answering.{or_refused}
 use Rattle.tink_keysets.specs.Ends.{IsAsTold, IsReadRefusal, HasRead}
 use Rattle.tink_keyset_io.specs.Reading.{told, IsFault, IsUnreadText, IsPiece}
 use Rattle.tink_io.specs.Taken.{LosesAtMost}

@@ -2,7 +2,7 @@
 use Rattle.std.specs.Prelude.{ℕ, List, Result}
 use Rattle.tink_io.specs.declared.error.Kind.{Kind}
 use Rattle.tink_io.specs.declared.error.Kind.TheVariants.{BadKeyset}
-use Rattle.tink_io.specs.Told.{or_refused}
+use Rattle.tink_io.specs.Answering.{or_refused}
 use Rattle.tink_proto.specs.Messages.{keyset}
 use Rattle.wire_format.specs.Message.{decoded}
 use Rattle.tink_proto.specs.declared.messages.keys.Keyset.{Keyset}
@@ -23,13 +23,13 @@ edited_by Destroy id ks = edits.destroy ks id
 edited_by Delete id ks = edits.delete ks id
 
 -- the keyset that bytes spell, whatever its keys are
-abbrev pub held_keyset : List ℕ → Result Keyset Kind
-held_keyset bytes = chained handle_of_keys (or_refused BadKeyset (decoded keyset.read bytes))
+abbrev pub fitting_keyset : List ℕ → Result Keyset Kind
+fitting_keyset bytes = chained handle_of_keys (or_refused BadKeyset (decoded keyset.read bytes))
 
 -- the keyset that is edited: a key that is promoted or enabled may repair it, so it need not be valid before
 abbrev pub start_of : Edit → List ℕ → Result Keyset Kind
-start_of Promote bytes = held_keyset bytes
-start_of Enable bytes = held_keyset bytes
+start_of Promote bytes = fitting_keyset bytes
+start_of Enable bytes = fitting_keyset bytes
 start_of Disable bytes = valid_keyset bytes
 start_of Destroy bytes = valid_keyset bytes
 start_of Delete bytes = valid_keyset bytes

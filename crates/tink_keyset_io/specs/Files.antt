@@ -3,7 +3,7 @@ use Rattle.std.specs.Prelude.{◌==◌, ◌||◌, ℕ, List, [], ◌∷◌, Bool
 use Rattle.wire_format.specs.Message.{encoded}
 use Rattle.tink_io.specs.declared.error.Kind.{Kind}
 use Rattle.tink_io.specs.declared.error.Kind.TheVariants.{BadJson}
-use Rattle.tink_io.specs.Told.{and_then, made_of, or_refused}
+use Rattle.tink_io.specs.Answering.{and_then, made_of, or_refused}
 use Rattle.tink_json.specs.Messages as json
 use Rattle.tink_json.specs.Written.{keyset_value, pretty_text}
 use Rattle.tink_proto.specs.Messages.{keyset}

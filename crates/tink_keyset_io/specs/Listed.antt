@@ -4,7 +4,7 @@ use Rattle.std.specs.Ordering.{int_eq}
 use Rattle.wire_format.specs.Message.{decoded}
 use Rattle.tink_io.specs.declared.error.Kind.{Kind}
 use Rattle.tink_io.specs.declared.error.Kind.TheVariants.{BadKeyset}
-use Rattle.tink_io.specs.Told.{made_of, or_refused}
+use Rattle.tink_io.specs.Answering.{made_of, or_refused}
 use Rattle.tink_proto.specs.Messages.{keyset}
 use Rattle.tink_proto.specs.declared.messages.infos.KeyInfo.{KeyInfo}
 use Rattle.tink_proto.specs.declared.messages.keys.Keyset.{Keyset}

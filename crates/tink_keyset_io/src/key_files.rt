@@ -7,7 +7,7 @@ mod laws;
 mod listing;
 mod room;
 
-pub use editing::{Edit, edited, edited_file};
+pub use editing::{Edit, edit_keyset, edited_file};
 pub use formats::{Format, as_file, wire_bytes};
 pub use json_list::list_json;
 pub use laws::law_json_file_read_again;

@@ -5,7 +5,7 @@ ghost use Rattle.std.specs.declared.option.Option.{Option};
 ghost use Rattle.std.specs.declared.result.Result.{Result};
 ghost use Rattle.tink_io.specs.declared.error.Kind.{Kind as Refusal};
 ghost use Rattle.tink_io.specs.declared.error.Kind.TheVariants.{OutOfMemory};
-ghost use Rattle.tink_io.specs.Told.{or_refused};
+ghost use Rattle.tink_io.specs.Answering.{or_refused};
 ghost use Rattle.tink_keysets.specs.Ends.{HasRead, IsAsTold};
 
 use std::alloc::Global;

@@ -1,7 +1,7 @@
 -- What adding a key answers, from what each of its parts does.
 use Rattle.std.proofs.Common.{◌≡◌, ◌⊎◌, ◌∙◌, ◌++◌, ◌∷◌, [], inl, inr, List, ℕ, Bool, cond, Result, Ok, Err, ap, refl, subst, sym}
 use Rattle.std.specs.Prelude.{OnErr, IfOk}
-use Rattle.tink_io.specs.Told.{IsShort, Replies}
+use Rattle.tink_io.specs.Answering.{IsShort, Replies}
 use Rattle.tink_io.specs.declared.error.Kind.{Kind}
 use Rattle.tink_io.specs.declared.error.TinkError.{TinkError}
 use Rattle.tink_proto.specs.declared.messages.keys.Key.{Key}

@@ -1,6 +1,6 @@
 -- How a call is refused where its master refuses.
 use Rattle.std.proofs.Common.{◌≡◌, ◌⊎◌, inl, inr, ◌∙◌, List, ℕ, Result, Err, refl, sym, ap}
-use Rattle.tink_io.specs.Told.{IsShort, Replies}
+use Rattle.tink_io.specs.Answering.{IsShort, Replies}
 use Rattle.tink_io.specs.declared.error.Kind.{Kind}
 use Rattle.tink_io.specs.declared.error.Kind.TheVariants.{MasterFailed, OutOfMemory}
 use Rattle.tink_io.specs.declared.error.TinkError.{TinkError}

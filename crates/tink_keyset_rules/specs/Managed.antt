@@ -1,6 +1,6 @@
 -- The data of a new key, which key managers make, and adding a key of it.
 use Rattle.std.specs.Prelude.{◌≡◌, ℕ, List, Bool, Result}
-use Rattle.tink_io.specs.Told.{Tells}
+use Rattle.tink_io.specs.Answering.{Tells}
 use Rattle.tink_io.specs.declared.error.Kind.{Kind}
 use Rattle.tink_io.specs.declared.error.TinkError.{TinkError}
 use Rattle.tink_proto.specs.declared.messages.keys.KeyData.{KeyData}

@@ -2,7 +2,7 @@
 
 ghost use Rattle.std.specs.Prelude.{◌≡◌, ◌<◌, ◌++◌, ◌∷◌, [], Some, IsTrue, cond, vec_len, vec_capacity};
 ghost use Rattle.std.specs.List.{list_all};
-ghost use Rattle.tink_io.specs.Told.{Replies};
+ghost use Rattle.tink_io.specs.Answering.{Replies};
 ghost use Rattle.tink_registry.specs.Known.{IsOfKnownMaterial};
 ghost use Rattle.keyset_model.specs.Adding as adding;
 ghost use Rattle.keyset_model.specs.Entries as entries;
@@ -77,8 +77,8 @@ pub fn put_new(
         IsAdded result (record { primary_key_id = primary.new; key = keys.new.items }) draws.new
         (adding.added_by_id (record { primary_key_id = primary.old; key = keys.old.items }) kt.now as_primary key_data
         found.0 found.1) }
-    ensures held { IsTrue (list_all validity.is_held keys.old.items)
-        → IsTrue (list_all validity.is_held keys.new.items) }
+    ensures held { IsTrue (list_all validity.fits_handle keys.old.items)
+        → IsTrue (list_all validity.fits_handle keys.new.items) }
 {
     match draw_id(keys, draws) {
         Ok(id) => {
@@ -103,8 +103,8 @@ fn put_key(keys: &mut Vec<Key>, kt: &KeyTemplate, key_data: KeyData, id: u32)
     requires room { vec_len keys.old < vec_capacity keys.old }
     requires known { IsOfKnownMaterial key_data }
     ensures items { keys.new.items ≡ keys.old.items ++ adding.new_key kt.now key_data id ∷ [] }
-    ensures held { IsTrue (list_all validity.is_held keys.old.items)
-        → IsTrue (list_all validity.is_held keys.new.items) }
+    ensures held { IsTrue (list_all validity.fits_handle keys.old.items)
+        → IsTrue (list_all validity.fits_handle keys.new.items) }
 {
     let key = Key {
         key_data: Some(key_data),

@@ -1,7 +1,7 @@
 //! What a master key decrypts and encrypts.
 
 ghost use Rattle.std.specs.Prelude.{◌≡◌};
-ghost use Rattle.tink_io.specs.Told.{Answers, Replies};
+ghost use Rattle.tink_io.specs.Answering.{Answers, Replies};
 ghost use Rattle.tink_keyset_rules.specs.Masters.{by_master, drawn_by_master, master_kind};
 
 use std::alloc::Global;

@@ -146,13 +146,13 @@ fn is_public(key: &Key) -> bool
 
 /// Whether a handle holds the keys.
 pub fn are_held(keys: &[Key]) -> bool
-    ensures { result ≡ list_all validity.is_held keys.now }
+    ensures { result ≡ list_all validity.fits_handle keys.now }
 {
-    keys.iter().all(is_held)
+    keys.iter().all(fits_handle)
 }
 
-fn is_held(key: &Key) -> bool
-    ensures { result ≡ validity.is_held key.now }
+fn fits_handle(key: &Key) -> bool
+    ensures { result ≡ validity.fits_handle key.now }
 {
     has_its_data(key) && is_known_material(&key.key_data)
 }

@@ -13,11 +13,11 @@ use Rattle.tink_proto.specs.declared.messages.keys.Keyset.{Keyset}
 use Rattle.tink_primitives.specs.declared.primitive.Primitive.{Primitive}
 use Rattle.tink_sets.specs.Entries.{entry_of_id}
 use Rattle.tink_sets.specs.declared.entry.TypedEntry.{TypedEntry}
-use Rattle.keyset_model.specs.Commands.{Command, Maker, Managed, after_all}
+use Rattle.keyset_model.specs.Operations.{Operation, Maker, Managed, after_all}
 use Rattle.keyset_model.specs.Keys.{enabled}
 use Rattle.keyset_model.specs.Spared.{Spares}
 use Rattle.keyset_model.proofs.EnabledLaw.{keeps_enabled}
-use Rattle.tink_asking.specs.Accepting.{AcceptsNoOther, accepted, entries_of, first_value, or_else, value_or}
+use Rattle.tink_sets.specs.Accepting.{AcceptsNoOther, accepted, entries_of, first_value, or_else, value_or}
 use Rattle.tink_keysets.specs.Typing.{key_entry, keyset_entries}
 use Rattle.tink_keysets.proofs.KeyEntries.{IsOwnPrefix, of_enabled, of_own_prefix, primary_key}
 
@@ -136,7 +136,7 @@ module _ {R K A D HD HE M P S St V Q T : Type 0} (pick : Primitive K A D HD HE M
       accepted_by_list answer none es e value input (of_own_prefix pick url supports builds managers k e is) (of_enabled pick url supports builds managers ks k e es is there all) by alone
 
   -- what the primary entry made, after commands that spare its key
-  pub accepted_after : (makes : Maker) (m : Managed) (commands : List Command) (es later : List (TypedEntry Q)) (e : TypedEntry Q) (value : T) (input : List ℕ)
+  pub accepted_after : (makes : Maker) (m : Managed) (commands : List Operation) (es later : List (TypedEntry Q)) (e : TypedEntry Q) (value : T) (input : List ℕ)
       → All (Spares m.keyset.primary_key_id) commands → keyset_entries pick url supports builds managers m.keyset ≡ Ok es → entry_of_id m.keyset.primary_key_id es ≡ Some e
       → keyset_entries pick url supports builds managers (after_all makes m commands).keyset ≡ Ok later
       → IsAcceptedBy answer e value input → All (AcceptsNoOther answer value input) later → accepted answer (entries_of later) none input ≡ Ok value

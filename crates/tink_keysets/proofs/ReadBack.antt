@@ -1,14 +1,14 @@
 -- What is written into memory under a master key and read again.
 use Rattle.std.proofs.Common.{◌≡◌, ◌⊎◌, inl, inr, ◌∙◌, ℕ, List, Some, Result, Ok, Err, refl, sym, ap, subst, arith, cond}
 use Rattle.wire_format.specs.Message.{decoded}
-use Rattle.tink_io.specs.Told.{Answers, made_of, or_refused}
+use Rattle.tink_io.specs.Answering.{Answers, made_of, or_refused}
 use Rattle.tink_io.specs.declared.error.Kind.{Kind}
 use Rattle.tink_io.specs.declared.error.Kind.TheVariants.{BadKeyset, InvalidKeyset, MasterFailed, OutOfMemory, ReadFault, WriteFault}
 use Rattle.tink_io.specs.declared.error.TinkError.{TinkError}
 use Rattle.tink_proto.specs.Messages.{keyset}
 use Rattle.tink_proto.specs.declared.messages.infos.EncryptedKeyset.{EncryptedKeyset}
 use Rattle.tink_proto.specs.declared.messages.keys.Keyset.{Keyset}
-use Rattle.keyset_model.specs.Validity.{MayBeHeld}
+use Rattle.keyset_model.specs.Validity.{FitsHandle}
 use Rattle.tink_keyset_rules.specs.declared.memory.MemReaderWriter.{MemReaderWriter}
 use Rattle.tink_keysets.specs.Encrypted.{by_master, chained, decrypted, handle_of_bytes, with_info, MasterUndoes}
 use Rattle.tink_keyset_rules.specs.Ends.{held_or, IsReadRefusal, IsWriteRefusal}
@@ -40,7 +40,7 @@ read_written decrypts associated_data made old new result taken gives =
     subst (λ m. Answers result (chained (decrypted decrypts associated_data) m)) (sym taken.is_made) (reads_held (decrypted decrypts associated_data) result taken.message from)
 
 -- bytes that spell a keyset that is held are those of a handle
-pub spelled : (ks : Keyset) (bytes : List ℕ) → MayBeHeld ks → decoded keyset.read bytes ≡ Some ks → handle_of_bytes bytes ≡ Ok ks
+pub spelled : (ks : Keyset) (bytes : List ℕ) → FitsHandle ks → decoded keyset.read bytes ≡ Some ks → handle_of_bytes bytes ≡ Ok ks
 spelled ks bytes held again = ap (λ o. chained handle_of (or_refused BadKeyset o)) again ∙ ap (λ b. cond b (Ok ks) (Err InvalidKeyset)) held
 
 -- under the same data

@@ -1,7 +1,7 @@
 -- What calls through a reader or a writer answer, from what each of their parts does.
 use Rattle.std.proofs.Common.{◌≡◌, ◌⊎◌, ◌∙◌, inl, inr, ap, refl, subst, sym, [], List, Option, None, Result, Ok, Err, ℕ}
 use Rattle.std.specs.Prelude.{OnOk, IfErr}
-use Rattle.tink_io.specs.Told.{Answers, IsShort, made_of, Tells}
+use Rattle.tink_io.specs.Answering.{Answers, IsShort, made_of, Tells}
 use Rattle.tink_io.specs.declared.error.Kind.{Kind}
 use Rattle.tink_io.specs.declared.error.Kind.TheVariants.{OutOfMemory as NoMemory}
 use Rattle.tink_io.specs.declared.error.TinkError.{TinkError}

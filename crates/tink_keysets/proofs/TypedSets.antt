@@ -6,7 +6,7 @@ use Rattle.std.specs.BTreeMap.{BTreeMap}
 use Rattle.tink_io.specs.declared.error.Kind.{Kind}
 use Rattle.tink_io.specs.declared.error.Kind.TheVariants.{OutOfMemory, NoPrimary, WrongPrimitive}
 use Rattle.tink_io.specs.declared.error.TinkError.{TinkError}
-use Rattle.tink_io.specs.Told.{made_of}
+use Rattle.tink_io.specs.Answering.{made_of}
 use Rattle.tink_primitives.specs.declared.primitive.Primitive.{Primitive}
 use Rattle.tink_sets.specs.Converting.{converted, AreConverted, HasRefused}
 use Rattle.tink_sets.specs.Entries.{prefix_of, typed_by, typed_prefix_of, with_primitive, IsTypedPrimary, IsRefusedPrimary, HasAnother}

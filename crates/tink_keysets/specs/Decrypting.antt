@@ -4,7 +4,7 @@ use Rattle.tink_io.specs.declared.error.Kind.{Kind}
 use Rattle.tink_io.specs.declared.error.Kind.TheVariants.{DecryptFailed}
 use Rattle.tink_primitives.specs.Meaning.{IsTold}
 use Rattle.tink_sets.specs.declared.entry.TypedEntry.{TypedEntry}
-use Rattle.tink_asking.specs.Accepting.{AcceptsNoOther, accepted, or_else, prefixed_value, raw_value, value_or}
+use Rattle.tink_sets.specs.Accepting.{AcceptsNoOther, accepted, or_else, prefixed_value, raw_value, value_or}
 
 -- a value, or `DecryptFailed`
 value_told : (o : Option (List ℕ)) → IsTold (value_or DecryptFailed o)

@@ -3,9 +3,9 @@ pub mod Encrypted
 pub mod Handles
 pub mod Managed
 pub mod Through
-pub mod Told
+pub mod Editing
 pub mod Valid
-pub use Rattle.tink_asking.specs.Accepting
+pub use Rattle.tink_sets.specs.Accepting
 pub use Rattle.tink_keyset_rules.specs.Ends
 pub mod Decrypting
 pub mod Typing

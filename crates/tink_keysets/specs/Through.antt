@@ -1,6 +1,6 @@
 -- What calls through a reader or a writer of keysets answer.
 use Rattle.std.specs.Prelude.{◌≡◌, ◌⊎◌, ℕ, List, Option, Result, Ok, Err}
-use Rattle.tink_io.specs.Told.{IsShort}
+use Rattle.tink_io.specs.Answering.{IsShort}
 use Rattle.tink_io.specs.declared.error.Kind.{Kind}
 use Rattle.tink_io.specs.declared.error.Kind.TheVariants.{OutOfMemory}
 use Rattle.tink_io.specs.declared.error.TinkError.{TinkError}

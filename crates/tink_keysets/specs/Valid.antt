@@ -3,7 +3,7 @@ use Rattle.std.specs.Prelude.{ℕ, List, Result, Ok, Err, if◌then◌else◌}
 use Rattle.wire_format.specs.Message.{decoded}
 use Rattle.tink_io.specs.declared.error.Kind.{Kind}
 use Rattle.tink_io.specs.declared.error.Kind.TheVariants.{BadKeyset, InvalidKeyset}
-use Rattle.tink_io.specs.Told.{or_refused}
+use Rattle.tink_io.specs.Answering.{or_refused}
 use Rattle.tink_proto.specs.Messages.{keyset}
 use Rattle.tink_proto.specs.declared.messages.keys.Keyset.{Keyset}
 use Rattle.keyset_model.specs.Validity.{is_valid}

@@ -3,5 +3,5 @@
 
 mod typing;
 
-pub use tink_asking::{Question, ask_behind_prefix, ask_entries};
+pub use tink_sets::{Question, ask_behind_prefix, ask_entries};
 pub use typing::typed_primitives;

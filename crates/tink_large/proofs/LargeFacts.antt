@@ -8,7 +8,7 @@ use Rattle.std.specs.List.{range_with_len}
 use Rattle.stream_model.specs.Agree.{joined}
 use Rattle.stream_model.specs.Cut.{chunks, full_chunks, sealed, segments}
 use Rattle.stream_model.specs.Key.{IsUsable, first_room, front, keys_of, room, segment_at}
-use Rattle.stream_model.specs.Sealing.{chunk_count, drawn, prefix_of, salt_of}
+use Rattle.stream_model.specs.Sealing.{chunk_count, drawn, nonce_prefix_of, salt_of}
 use Rattle.stream_model.proofs.CutFacts.{full_chunks_fits, full_chunks_more}
 use Rattle.stream_model.proofs.KeyFacts.{lawful_at}
 use Rattle.stream_model.proofs.SealingFacts.{length-chunks}
@@ -32,12 +32,12 @@ large_keys_are salt = refl
 pub length-salt : (draws : List ℕ) → drawn large_key ≤ length draws → length (salt_of large_key draws) ≡ 16
 length-salt draws h = omega (arith, length-take 16 draws)
 
-pub length-prefix : (draws : List ℕ) → drawn large_key ≤ length draws → length (prefix_of large_key draws) ≡ 7
+pub length-prefix : (draws : List ℕ) → drawn large_key ≤ length draws → length (nonce_prefix_of large_key draws) ≡ 7
 length-prefix draws h = omega (arith, length-take 7 (drop 16 draws), length-drop 16 draws)
 
-pub length-front : (draws : List ℕ) → length (front large_key (salt_of large_key draws) (prefix_of large_key draws)) ≤ 24
+pub length-front : (draws : List ℕ) → length (front large_key (salt_of large_key draws) (nonce_prefix_of large_key draws)) ≤ 24
 length-front draws =
-    omega (arith, length-append (salt_of large_key draws) (prefix_of large_key draws), length-take 16 draws, length-take 7 (drop 16 draws))
+    omega (arith, length-append (salt_of large_key draws) (nonce_prefix_of large_key draws), length-take 16 draws, length-take 7 (drop 16 draws))
 
 pub length-large_text : (n : ℕ) → length (large_text n) ≡ text_length n
 unfolding large_text
@@ -69,18 +69,18 @@ length-sealed seg a b R long = length-segments seg 0 (chunks a b R) long
 
 -- the stream as its parts
 pub large_parts : (n : ℕ) (draws : List ℕ) → large_stream n draws
-    ≡ front large_key (salt_of large_key draws) (prefix_of large_key draws)
-    ++ sealed (segment_at large_key (large_keys (salt_of large_key draws)) (prefix_of large_key draws)) (first_room large_key) (room large_key) (large_text n)
+    ≡ front large_key (salt_of large_key draws) (nonce_prefix_of large_key draws)
+    ++ sealed (segment_at large_key (large_keys (salt_of large_key draws)) (nonce_prefix_of large_key draws)) (first_room large_key) (room large_key) (large_text n)
 unfolding large_stream
-large_parts n draws = sym (stream_is large_key [] (salt_of large_key draws) (prefix_of large_key draws) (large_keys (salt_of large_key draws)) (large_text n) (large_keys_are (salt_of large_key draws)))
+large_parts n draws = sym (stream_is large_key [] (salt_of large_key draws) (nonce_prefix_of large_key draws) (large_keys (salt_of large_key draws)) (large_text n) (large_keys_are (salt_of large_key draws)))
 
 -- the bytes of the stream can be counted
 pub large_small : (n : ℕ) (draws : List ℕ) → n < 2 ^ 32 → length (large_stream n draws) < 2 ^ 64
 large_small n draws small =
-    let seg = segment_at large_key (large_keys (salt_of large_key draws)) (prefix_of large_key draws) in
-    let F = front large_key (salt_of large_key draws) (prefix_of large_key draws) in
+    let seg = segment_at large_key (large_keys (salt_of large_key draws)) (nonce_prefix_of large_key draws) in
+    let F = front large_key (salt_of large_key draws) (nonce_prefix_of large_key draws) in
     let Z = sealed seg (first_room large_key) (room large_key) (large_text n) in
-    let long = (lawful_at large_key (large_keys (salt_of large_key draws)) (prefix_of large_key draws) large_usable.tag).longer in
+    let long = (lawful_at large_key (large_keys (salt_of large_key draws)) (nonce_prefix_of large_key draws) large_usable.tag).longer in
     omega (
       arith,
       ap length (large_parts n draws),

@@ -7,7 +7,7 @@ use Rattle.stream_model.specs.Agree.{joined}
 use Rattle.stream_model.specs.Cut.{chunks, sealed}
 use Rattle.stream_model.specs.Key.{StreamKey, first_room, front, keys_of, room, segment_at}
 use Rattle.stream_model.specs.Opening.{AreSegments, AreSegmentsBy, IsChosen, IsStream, OpeningKey, behind_front, opening_key}
-use Rattle.stream_model.specs.Sealing.{chunk_count, drawn, prefix_of, salt_of}
+use Rattle.stream_model.specs.Sealing.{chunk_count, drawn, nonce_prefix_of, salt_of}
 use Rattle.stream_model.proofs.KeyFacts.{CanOpen, lawful_at, opening_key_lawful}
 use Rattle.stream_model.proofs.OpeningFacts.{IsChosen-unique, all_agree}
 use Rattle.stream_model.proofs.SealingFacts.{length-chunks}
@@ -39,12 +39,12 @@ text_whole n = ap (text_from n 0) (omega arith)
 
 -- the front and the segments are the stream
 stream_whole : (n : ℕ) (draws keys : List ℕ) → keys_of large_key [] (salt_of large_key draws) ≡ Some keys
-    → front large_key (salt_of large_key draws) (prefix_of large_key draws) ++ sealed (segment_at large_key keys (prefix_of large_key draws)) (first_room large_key) (room large_key) (large_text n) ≡ large_stream n draws
+    → front large_key (salt_of large_key draws) (nonce_prefix_of large_key draws) ++ sealed (segment_at large_key keys (nonce_prefix_of large_key draws)) (first_room large_key) (room large_key) (large_text n) ≡ large_stream n draws
 unfolding large_stream
-stream_whole n draws keys e = stream_is large_key [] (salt_of large_key draws) (prefix_of large_key draws) keys (large_text n) e
+stream_whole n draws keys e = stream_is large_key [] (salt_of large_key draws) (nonce_prefix_of large_key draws) keys (large_text n) e
 
 module _ {E : Type 0} {g : Ghosts E} (draws left : List ℕ) (w : SegmentWriter E g) (p : Pending) (s : IsNewStream large_key [] draws left (Some []) (segment_map w.sealer) w.sealer.first w.sealer.room (moment_at w p)) where
-  all_sealed : (T : List ℕ) → comes w T ≡ sealed (segment_at large_key s.keys (prefix_of large_key draws)) (first_room large_key) (room large_key) T
+  all_sealed : (T : List ℕ) → comes w T ≡ sealed (segment_at large_key s.keys (nonce_prefix_of large_key draws)) (first_room large_key) (room large_key) T
   all_sealed T =
       let seg : ℕ → Bool → List ℕ → List ℕ = segment_map w.sealer in
       let a : ℕ = w.sealer.first in
@@ -54,24 +54,24 @@ module _ {E : Type 0} {g : Ghosts E} (draws left : List ℕ) (w : SegmentWriter 
       ∙ ap (λ x. to_come seg a b 0 (x ++ T)) s.held
       ∙ all_comes seg a b T
       ∙ ap (λ f. sealed f a b T) s.segments
-      ∙ ap (λ x. sealed (segment_at large_key s.keys (prefix_of large_key draws)) x b T) s.first_is
-      ∙ ap (λ y. sealed (segment_at large_key s.keys (prefix_of large_key draws)) (first_room large_key) y T) s.later_is
+      ∙ ap (λ x. sealed (segment_at large_key s.keys (nonce_prefix_of large_key draws)) x b T) s.first_is
+      ∙ ap (λ y. sealed (segment_at large_key s.keys (nonce_prefix_of large_key draws)) (first_room large_key) y T) s.later_is
 
   all_left : p.given ≡ 0 → (n : ℕ) → left_of n 0 w p ≡ large_stream n draws
   all_left given n =
-      let F : List ℕ = front large_key (salt_of large_key draws) (prefix_of large_key draws) in
+      let F : List ℕ = front large_key (salt_of large_key draws) (nonce_prefix_of large_key draws) in
       let T : List ℕ = text_from n 0 (text_length n - 0) in
       ap (λ k. drop k p.bytes.items ++ comes w T) given
       ∙ ap (λ x. x ++ comes w T) s.written
       ∙ ap (λ x. F ++ x) (all_sealed T)
-      ∙ ap (λ x. F ++ sealed (segment_at large_key s.keys (prefix_of large_key draws)) (first_room large_key) (room large_key) x) (text_whole n)
+      ∙ ap (λ x. F ++ sealed (segment_at large_key s.keys (nonce_prefix_of large_key draws)) (first_room large_key) (room large_key) x) (text_whole n)
       ∙ stream_whole n draws s.keys s.keys_are
 
   -- a new stream of the key is begun
   pub begun : p.given ≡ 0 → IsLonger (segment_map w.sealer) w.sealer.overhead → IsBegun draws left w p
   begun given long =
       let here = long 0 true [] in
-      let there = (lawful_at large_key s.keys (prefix_of large_key draws) large_usable.tag).longer 0 true [] in
+      let there = (lawful_at large_key s.keys (nonce_prefix_of large_key draws) large_usable.tag).longer 0 true [] in
       record {
         enough = s.drew.enough;
         rest = s.drew.rest;
@@ -93,7 +93,7 @@ not_begun draws left old new UnsupportedHash none wide full r = absurd (let e = 
 not_begun draws left old new WriteFault none wide full r =
     let rose = r.rose in
     let at_room : new.room ≤ length new.bytes.items = full (omega arith) in
-    let short = front_short new.bytes.items (front large_key (salt_of large_key draws) (prefix_of large_key draws)) (rw none at r.begun) in
+    let short = front_short new.bytes.items (front large_key (salt_of large_key draws) (nonce_prefix_of large_key draws)) (rw none at r.begun) in
     absurd (omega (arith, at_room, short, length-front draws, wide))
 not_begun draws left old new _ none wide full r = absurd r
 
@@ -121,7 +121,7 @@ large_is_stream : (n : ℕ) (draws : List ℕ) → drawn large_key ≤ length dr
     → IsStream (opening_key [] large_key) (large_stream n draws) (chunks (first_room large_key) (room large_key) (large_text n))
 unfolding large_stream
 large_is_stream n draws enough small =
-    sealed_stream large_key [] (salt_of large_key draws) (prefix_of large_key draws) (large_keys (salt_of large_key draws)) (large_text n) large_usable (length-salt draws enough) (length-prefix draws enough)
+    sealed_stream large_key [] (salt_of large_key draws) (nonce_prefix_of large_key draws) (large_keys (salt_of large_key draws)) (large_text n) large_usable (length-salt draws enough) (length-prefix draws enough)
     (large_keys_are (salt_of large_key draws)) (omega (arith, few_chunks n))
 
 is_stream : (n : ℕ) (S : List ℕ) → IsLargeStream n S → n < 2 ^ 32 → IsStream (opening_key [] large_key) S (chunks (first_room large_key) (room large_key) (large_text n))

@@ -6,7 +6,7 @@ use Rattle.hex.specs.Hex.{encode_lower}
 use Rattle.sha2.specs.Sha256.{sha256}
 use Rattle.stream_model.specs.Key.{StreamKey}
 use Rattle.stream_model.specs.Key.SegmentKind.{CtrHmac}
-use Rattle.stream_model.specs.Sealing.{chunk_count, drawn, prefix_of, salt_of, stream}
+use Rattle.stream_model.specs.Sealing.{chunk_count, drawn, nonce_prefix_of, salt_of, stream}
 use Rattle.tink_io.specs.declared.error.Kind.{Kind}
 use Rattle.tink_io.specs.declared.error.Kind.TheVariants.{OutOfMemory, RandomFault}
 use Rattle.tink_large.specs.declared.measuring.Measured.{Measured}
@@ -40,7 +40,7 @@ large_key = record {
 
 -- its stream without associated data, whose salt and prefix are the first draws
 unfoldable pub large_stream : ℕ → List ℕ → List ℕ
-large_stream n draws = stream large_key [] (salt_of large_key draws) (prefix_of large_key draws) (large_text n)
+large_stream n draws = stream large_key [] (salt_of large_key draws) (nonce_prefix_of large_key draws) (large_text n)
 
 -- the lengths of text and stream, the number of segments and the digest of the stream
 pub record IsMeasured (n : ℕ) (draws left : List ℕ) (m : Measured) : Type 0 where

@@ -50,5 +50,5 @@ pub fn measure(alloc: Global, n: u32, draws: &mut Draws) -> Result<Measured, Tin
     let mut source = SealedText::new(n, writer, piece, pending);
     let mut reader = start_reading(&key, trial, &mut source);
     let text = open_all(&mut reader, &mut source);
-    Ok(source.measured(text, reader.segments()))
+    Ok(source.into_measures(text, reader.segments()))
 }

@@ -111,7 +111,7 @@ pub fn open_all(reader: &mut SegmentReader<StreamSegment>, source: &mut SealedTe
     let mut bytes: u64 = 0;
     'segments: while reader.progress() == Progress::Running {
         match reader.open_next(source) {
-            Ok(()) => bytes += reader.opened().len() as u64,
+            Ok(()) => bytes += reader.plaintext().len() as u64,
             Err(_) => unreachable!(),
         }
     }

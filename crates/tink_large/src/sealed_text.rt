@@ -142,7 +142,7 @@ impl SealedText {
 
     /// The size and the digest of the stream that was read, with these numbers of bytes of text and of
     /// segments.
-    pub fn measured(self, text: u64, segments: u64) -> Measured
+    pub fn into_measures(self, text: u64, segments: u64) -> Measured
         ensures text { result.text ≡ text }
         ensures stream { result.stream ≡ self.count }
         ensures segments { result.segments ≡ segments }

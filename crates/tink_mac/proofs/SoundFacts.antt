@@ -13,7 +13,7 @@ use Rattle.hash_keys.specs.Hash as codes_of
 use Rattle.hash_keys.proofs.Lengths.{length-hmac_of}
 use Rattle.tink_io.specs.declared.error.Kind.{Kind}
 use Rattle.tink_io.specs.declared.error.Kind.TheVariants.{BadKeySize, BadTagSize, InvalidKey}
-use Rattle.tink_io.specs.Told.{made_of}
+use Rattle.tink_io.specs.Answering.{made_of}
 use Rattle.tink_primitives.specs.declared.primitive.Primitive.{Primitive}
 use Rattle.tink_primitives.specs.declared.primitive.Primitive.TheVariants as sorts
 use Rattle.tink_proto_keys.specs.Mac.{HmacKey}

@@ -4,7 +4,7 @@ use Rattle.base64.specs.GeneralPurpose.{IsBytes}
 use Rattle.tink_io.specs.declared.error.Kind.{Kind}
 use Rattle.tink_io.specs.declared.error.Kind.TheVariants.{MacMismatch, OutOfMemory}
 use Rattle.tink_io.specs.declared.error.TinkError.{TinkError}
-use Rattle.tink_io.specs.Told.{Answers, made_of}
+use Rattle.tink_io.specs.Answering.{Answers, made_of}
 use Rattle.tink_primitives.specs.Meaning.{IsMatch}
 use Rattle.tink_sets.specs.declared.entry.TypedEntry.{TypedEntry}
 use Rattle.tink_mac.specs.Wrapped.{any_verifies, primary_mac, Computes, Verifies}

@@ -9,7 +9,7 @@ use Rattle.tink_proto.specs.declared.messages.keys.Keyset.{Keyset}
 use Rattle.tink_primitives.specs.declared.primitive.Primitive.{Primitive}
 use Rattle.tink_sets.specs.Groups.{group_of}
 use Rattle.tink_sets.specs.declared.entry.TypedEntry.{TypedEntry}
-use Rattle.keyset_model.specs.Commands.{Command, Maker, Managed, after_all}
+use Rattle.keyset_model.specs.Operations.{Operation, Maker, Managed, after_all}
 use Rattle.keyset_model.specs.Keys.{enabled}
 use Rattle.keyset_model.specs.Spared.{Spares}
 use Rattle.tink_mac.specs.Rotation.{mac_entries, mac_entry, BuildsSound, IsMacBy}
@@ -48,7 +48,7 @@ module _ {M K A D HD HE P F S St V : Type 0} (url : M → List ℕ) (supports : 
   abbrev pub TokensOutlive : Type 0
   TokensOutlive =
       BuildsSound builds computes verifies
-      → (managers : List M) (makes : Maker) (m : Managed) (commands : List Command)
+      → (managers : List M) (makes : Maker) (m : Managed) (commands : List Operation)
       (primary later : Option (TypedEntry P)) (groups edited : BTreeMap (Vec ℕ Global) (List (TypedEntry P)))
       (payload token : List ℕ)
       → All (Spares m.keyset.primary_key_id) commands

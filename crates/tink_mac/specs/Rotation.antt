@@ -9,7 +9,7 @@ use Rattle.tink_primitives.specs.declared.primitive.Primitive.{Primitive}
 use Rattle.tink_primitives.specs.declared.primitive.Primitive.TheVariants.{Mac}
 use Rattle.tink_sets.specs.Entries.{entry_of_id}
 use Rattle.tink_sets.specs.declared.entry.TypedEntry.{TypedEntry}
-use Rattle.keyset_model.specs.Commands.{Command, Maker, Managed, after_all}
+use Rattle.keyset_model.specs.Operations.{Operation, Maker, Managed, after_all}
 use Rattle.keyset_model.specs.Keys.{enabled}
 use Rattle.keyset_model.specs.Spared.{Spares}
 use Rattle.tink_keysets.specs.Accepting.{entries_of}
@@ -58,7 +58,7 @@ module _ {M K A D HD HE P F S St V : Type 0} (url : M → List ℕ) (supports : 
   abbrev pub MacsOutlive : Computes P → Verifies P → Type 0
   MacsOutlive computes verifies =
       BuildsSound builds computes verifies
-      → (managers : List M) (makes : Maker) (m : Managed) (commands : List Command)
+      → (managers : List M) (makes : Maker) (m : Managed) (commands : List Operation)
       (es later : List (TypedEntry P)) (message mac : List ℕ)
       → All (Spares m.keyset.primary_key_id) commands
       → mac_entries managers m.keyset ≡ Ok es → mac_entries managers (after_all makes m commands).keyset ≡ Ok later

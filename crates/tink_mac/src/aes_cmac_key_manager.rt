@@ -1,7 +1,7 @@
 //! The keys of AES-CMAC.
 
 ghost use Rattle.std.specs.Prelude.{◌≡◌};
-ghost use Rattle.tink_io.specs.Told.{Answers, made_of};
+ghost use Rattle.tink_io.specs.Answering.{Answers, made_of};
 ghost use Rattle.tink_primitives.specs.declared.primitive.Primitive.TheVariants as sorts;
 ghost use Rattle.tink_key_manager.specs.Manager.{made_if};
 ghost use Rattle.tink_key_manager.specs.ManagerLaws.{made_if_told};

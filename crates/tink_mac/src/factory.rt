@@ -2,7 +2,7 @@
 
 ghost use Rattle.std.specs.Prelude.{◌≡◌, ◌++◌, ◌∷◌, [], None, true, is_some, IfOk, IfErr};
 ghost use Rattle.tink_io.specs.declared.error.Kind.TheVariants.{OutOfMemory};
-ghost use Rattle.tink_io.specs.Told.{Answers};
+ghost use Rattle.tink_io.specs.Answering.{Answers};
 ghost use Rattle.tink_primitives.specs.Sorts.{as_mac};
 ghost use Rattle.tink_sets.specs.Entries.{entry_of};
 ghost use Rattle.tink_sets.specs.Groups.{group_of, HaveSameGroups};

@@ -1,7 +1,7 @@
 //! The keys of HMAC.
 
 ghost use Rattle.std.specs.Prelude.{◌≡◌};
-ghost use Rattle.tink_io.specs.Told.{Answers, made_of};
+ghost use Rattle.tink_io.specs.Answering.{Answers, made_of};
 ghost use Rattle.tink_io.specs.declared.error.Kind.TheVariants.{InvalidKey, OutOfMemory};
 ghost use Rattle.tink_primitives.specs.declared.primitive.Primitive.TheVariants as sorts;
 ghost use Rattle.tink_key_manager.specs.Manager.{made_if};

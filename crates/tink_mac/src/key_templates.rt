@@ -1,7 +1,7 @@
 //! Templates of MAC keys. Each asks for keys with a prefix, of the type TINK.
 
 ghost use Rattle.std.specs.Prelude.{Ok};
-ghost use Rattle.tink_io.specs.Told.{Answers};
+ghost use Rattle.tink_io.specs.Answering.{Answers};
 ghost use Rattle.tink_proto.specs.declared.enums.HashType.TheVariants.{Sha256, Sha512};
 ghost use Rattle.tink_mac.specs.KeyTypes.{cmac_template, hmac_template};
 

@@ -1,6 +1,6 @@
 //! The MACs, each under a key.
 
-ghost use Rattle.tink_io.specs.Told.{Tells};
+ghost use Rattle.tink_io.specs.Answering.{Tells};
 ghost use Rattle.tink_mac.specs.Tags.{own_tag};
 
 mod aes_cmac;

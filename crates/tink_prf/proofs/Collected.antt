@@ -5,7 +5,7 @@ use Rattle.std.specs.BTreeMap.{BTreeMap, get, is_at, IsEmpty, IsFromIterResult, 
 use Rattle.std.specs.Map.{lookup}
 use Rattle.std.proofs.lemmas.Map.{update_all_push}
 use Rattle.tink_io.specs.declared.error.Kind.{Kind}
-use Rattle.tink_io.specs.Told.{made_of}
+use Rattle.tink_io.specs.Answering.{made_of}
 use Rattle.tink_sets.specs.Converting.{before}
 use Rattle.tink_set_groups.proofs.Converted.{none_before, one_more}
 

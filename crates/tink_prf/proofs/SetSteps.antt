@@ -10,7 +10,7 @@ use Rattle.tink_sets.specs.Entries.{prefix_of}
 use Rattle.tink_sets.specs.Groups.{group_of}
 use Rattle.tink_sets.specs.declared.entry.Entry.{Entry}
 use Rattle.tink_keysets.specs.Built.{HasEntries}
-use Rattle.tink_io.specs.Told.{and_then}
+use Rattle.tink_io.specs.Answering.{and_then}
 use Rattle.tink_prf.specs.Sets.{is_raw, primary_prf, prf_of, prfs_of, raw_prfs}
 use Rattle.tink_prf.proofs.RawEntries.{filter_all}
 

@@ -7,7 +7,7 @@ use Rattle.std.specs.BTreeMap.{BTreeMap, get, IsFromIterResult, IsOrdered}
 use Rattle.tink_io.specs.declared.error.Kind.{Kind}
 use Rattle.tink_io.specs.declared.error.Kind.TheVariants.{NoPrimary, NotRawOnly}
 use Rattle.tink_io.specs.declared.error.TinkError.{TinkError}
-use Rattle.tink_io.specs.Told.{and_then, made_of}
+use Rattle.tink_io.specs.Answering.{and_then, made_of}
 use Rattle.tink_primitives.specs.Sorts.{as_prf}
 use Rattle.tink_sets.specs.Converting.{converted}
 use Rattle.tink_sets.specs.Entries.{prefix_of}

@@ -1,7 +1,7 @@
 //! Templates of keys for pseudorandom functions.
 
 ghost use Rattle.std.specs.Prelude.{◌≡◌, Ok};
-ghost use Rattle.tink_io.specs.Told.{Answers};
+ghost use Rattle.tink_io.specs.Answering.{Answers};
 ghost use Rattle.tink_proto.specs.declared.enums.HashType.TheVariants as types;
 ghost use Rattle.tink_prf.specs.Templates.{aes_cmac_prf_template, hkdf_prf_template, hmac_prf_template};
 

@@ -4,7 +4,7 @@ ghost use Rattle.std.specs.Prelude.{◌≡◌, None, is_ok, IfOk, IfErr, OnOk};
 ghost use Rattle.std.specs.Ordering.{nat_cmp};
 ghost use Rattle.std.specs.BTreeMap.{IsFromIterResult};
 ghost use Rattle.tink_io.specs.declared.error.Kind.TheVariants.{OutOfMemory};
-ghost use Rattle.tink_io.specs.Told.{Answers, and_then};
+ghost use Rattle.tink_io.specs.Answering.{Answers, and_then};
 ghost use Rattle.tink_primitives.specs.Sorts.{as_prf};
 ghost use Rattle.tink_sets.specs.Converting.{converted};
 ghost use Rattle.tink_sets.specs.Entries.{entry_of};

@@ -1,7 +1,7 @@
 //! A pseudorandom function by CMAC (SP 800-38B) over AES (FIPS 197).
 
 ghost use Rattle.std.specs.Prelude.{◌≡◌, ⊤, false, length, IsTrue, MatchOption};
-ghost use Rattle.tink_io.specs.Told.{Tells};
+ghost use Rattle.tink_io.specs.Answering.{Tells};
 ghost use Rattle.tink_prf_subtle.specs.AesCmac.{aes_cmac_key, aes_cmac_output, aes_cmac_output_told, aes_cmac_params, cmac_of, is_aes_key_size};
 ghost use Rattle.tink_prf_subtle.specs.AesVariants.{IsKeyed, FitsVariant, variant_key};
 

@@ -2,7 +2,7 @@
 
 ghost use Rattle.std.specs.Prelude.{◌≡◌};
 ghost use Rattle.tink_core_subtle.specs.Hashes.{hash_named};
-ghost use Rattle.tink_io.specs.Told.{Answers, Tells};
+ghost use Rattle.tink_io.specs.Answering.{Answers, Tells};
 ghost use Rattle.tink_prf_subtle.specs.Hkdf.{hkdf_key, hkdf_output, hkdf_output_told, hkdf_params};
 
 use hash_keys::{Hash, hkdf_into};

@@ -3,7 +3,7 @@
 ghost use Rattle.std.specs.Prelude.{◌≡◌, ⊤, MatchOption};
 ghost use Rattle.hash_keys.specs.Hashers.{IsHmacKey};
 ghost use Rattle.tink_core_subtle.specs.Hashes.{hash_named};
-ghost use Rattle.tink_io.specs.Told.{Answers, Tells};
+ghost use Rattle.tink_io.specs.Answering.{Answers, Tells};
 ghost use Rattle.tink_prf_subtle.specs.Hmac.{hmac_key, hmac_output, hmac_output_told, hmac_params};
 
 use hash_keys::{Hash, HmacKey, hmac_into};

@@ -5,7 +5,7 @@ use Rattle.std.proofs.lemmas.List.{take-append-drop}
 use Rattle.tink_io.specs.declared.error.Kind.{Kind}
 use Rattle.tink_io.specs.declared.error.Kind.TheVariants.{OutOfMemory}
 use Rattle.tink_io.specs.declared.error.TinkError.{TinkError}
-use Rattle.tink_io.specs.Told.{Replies, made_of}
+use Rattle.tink_io.specs.Answering.{Replies, made_of}
 use Rattle.tink_primitives.specs.Meaning.{IsTold, IsEndOf, IsDrawn}
 
 -- one of two answers

@@ -2,7 +2,7 @@
 
 ghost use Rattle.std.specs.Prelude.{◌≡◌};
 ghost use Rattle.tink_io.specs.declared.error.Kind.TheVariants.{WrongPrimitive};
-ghost use Rattle.tink_io.specs.Told.{Tells};
+ghost use Rattle.tink_io.specs.Answering.{Tells};
 ghost use Rattle.tink_primitives.specs.Sorts.{as_aead, as_deterministic_aead, as_hybrid_decrypt, as_hybrid_encrypt};
 ghost use Rattle.tink_primitives.specs.Sorts.{as_mac, as_prf, as_signer, as_streaming_aead, as_verifier};
 

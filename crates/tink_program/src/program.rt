@@ -1,17 +1,17 @@
 //! All that the program does, over any source and any sinks.
 
 ghost use Rattle.std.specs.Prelude.{◌≡◌};
-ghost use Rattle.tink_program_core.specs.Program.{KeepsEnds, LeavesSource, OutcomeMeans, ProgramMeans, Promised, StatusMeans, outside_of, status_of};
+ghost use Rattle.tink_program_core.specs.Program.{KeepsEnds, LeavesSource, OutcomeMeans, ProgramMeans, Promised, StatusMeans, outside, status_of};
 ghost use Rattle.tink_cli_words.specs.Forms.{words_of};
 
 use std::alloc::Global;
 use tink_io::{Sink, Source};
-use tink_program_core::{done, parse};
+use tink_program_core::{parse, run_parsed};
 pub use tink_program_core::{Outcome, status, tell};
 
 /// Does what the words say, from `source` to `sink`, and answers the status:
 ///
-/// - 0: it was done, and `faults` is as it was.
+/// - 0: it was done, and `messages` is as it was.
 /// - 2: the words are none of `seal KEYSET AAD SEED`, `open KEYSET AAD`, `keygen TEMPLATE SEED`,
 ///   `rotate KEYSET TEMPLATE SEED`, `large N`, `range KEYSET AAD START LEN`,
 ///   `rewrap KEYSET AAD KEYSET AAD SEED`, `sign KEYSET` and `verify KEYSET`; the usage line is written.
@@ -29,26 +29,26 @@ pub use tink_program_core::{Outcome, status, tell};
 /// text from place START on and below START + LEN. The stream is the source's, of at most 16,777,216 bytes,
 /// and its last chunk and those that the range touches were opened before. `rewrap` moves the stream that the
 /// source has from the first keyset to the second. `sign` writes the token of the source's bytes, at most
-/// 16,777,216 of them, and `verify` the payload of the token that the source has. If `faults` fails, a prefix
+/// 16,777,216 of them, and `verify` the payload of the token that the source has. If `messages` fails, a prefix
 /// of the line is written, and the status is the same.
 pub fn program<S: Source, K: Sink, E: Sink>(
     alloc: Global,
     words: &Vec<String>,
     source: &mut S,
     sink: &mut K,
-    faults: &mut E,
+    messages: &mut E,
 ) -> u8
     // The status is that of an outcome, which says why it came and what stands after it.
     ensures means { ProgramMeans (words_of words.now)
-        (outside_of S.left S.faults K.got K.faults source.old sink.old)
-        (outside_of S.left S.faults K.got K.faults source.new sink.new)
-        (E.got faults.old) (E.got faults.new) (E.faults faults.old) (E.faults faults.new) result }
+        (outside S.Source K.Sink source.old sink.old)
+        (outside S.Source K.Sink source.new sink.new)
+        (E.got messages.old) (E.got messages.new) (E.faults messages.old) (E.faults messages.new) result }
 
     // When status 2 comes, which statuses a command has, what a keyset gets that does not load or is not made
     // and why, and what stands after a status of 10, 11 or 12.
     ensures status { StatusMeans (words_of words.now)
-        (outside_of S.left S.faults K.got K.faults source.old sink.old)
-        (outside_of S.left S.faults K.got K.faults source.new sink.new) result }
+        (outside S.Source K.Sink source.old sink.old)
+        (outside S.Source K.Sink source.new sink.new) result }
 
     // The ends themselves: a status of 2, 13 to 19, 24 or 25 leaves both as they were, and one of 10, 21 or
     // 26 to 28 the sink, of a command that reads all before it writes one of 11 too, and of a range one of 20
@@ -61,17 +61,17 @@ pub fn program<S: Source, K: Sink, E: Sink>(
     // What a status promises of the command that the words ask for: what was written by 0, and by others,
     // over told bytes or not; when the command succeeds.
     ensures promised { Promised (words_of words.now)
-        (outside_of S.left S.faults K.got K.faults source.old sink.old)
-        (outside_of S.left S.faults K.got K.faults source.new sink.new) result }
+        (outside S.Source K.Sink source.old sink.old)
+        (outside S.Source K.Sink source.new sink.new) result }
 
-    // A status of 0 leaves the sink of faults itself as it was.
-    ensures quiet { result ≡ 0 → faults.new ≡ faults.old }
+    // A status of 0 leaves the sink of messages itself as it was.
+    ensures quiet { result ≡ 0 → messages.new ≡ messages.old }
 
     // Whatever the status, what calls keep of the source and of both sinks is kept.
-    ensures same { S.same source.old source.new × K.same sink.old sink.new × E.same faults.old faults.new }
+    ensures same { S.same source.old source.new × K.same sink.old sink.new × E.same messages.old messages.new }
 {
     let outcome = command(alloc, words, source, sink);
-    tell(faults, outcome);
+    tell(messages, outcome);
     status(outcome)
 }
 
@@ -83,14 +83,14 @@ fn command<S: Source, K: Sink>(
     sink: &mut K,
 ) -> Outcome
     ensures means { OutcomeMeans (words_of words.now)
-        (outside_of S.left S.faults K.got K.faults source.old sink.old)
-        (outside_of S.left S.faults K.got K.faults source.new sink.new)
+        (outside S.Source K.Sink source.old sink.old)
+        (outside S.Source K.Sink source.new sink.new)
         result }
     ensures early { KeepsEnds (words_of words.now) (status_of result) source.old source.new sink.old sink.new }
     ensures kept { LeavesSource (words_of words.now) source.old source.new }
     ensures promised { Promised (words_of words.now)
-        (outside_of S.left S.faults K.got K.faults source.old sink.old)
-        (outside_of S.left S.faults K.got K.faults source.new sink.new)
+        (outside S.Source K.Sink source.old sink.old)
+        (outside S.Source K.Sink source.new sink.new)
         (status_of result) }
     ensures source { S.same source.old source.new }
     ensures sink { K.same sink.old sink.new }
@@ -100,7 +100,7 @@ fn command<S: Source, K: Sink>(
         Ok(None) => Outcome::Usage,
         Ok(Some(spelled)) => {
             let seed = spelled.1;
-            done(alloc, spelled.0, seed, source, sink)
+            run_parsed(alloc, spelled.0, seed, source, sink)
         }
     }
 }

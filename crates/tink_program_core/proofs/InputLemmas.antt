@@ -4,7 +4,7 @@ use Rattle.std.specs.Prelude.{Result, Ok, Err}
 use Rattle.tink_io.specs.Faults.{Rose}
 use Rattle.tink_io.specs.declared.error.Kind.{Kind}
 use Rattle.tink_io.specs.declared.error.Kind.TheVariants.{OutOfMemory, ReadFault, WriteFault, BadKeyset, InvalidKeyset, UnsupportedKeyType, InvalidKey, NoPrimary, WrongPrimitive, UnsupportedHash, UnknownTemplate, NoFreshId, InputTooLong}
-use Rattle.tink_io.specs.Outside.{Outside, HasNoFault, Told}
+use Rattle.tink_io.specs.Outside.{Outside, HasNoFault, AreKnown}
 use Rattle.tink_tokens.specs.Inputs.{input_limit, HasTooMuch, InputRefused, IsOfInput, IsUnloadable, IsUnwritten, LeavesSink}
 use Rattle.tink_tokens.proofs.ToldLemmas.{long_told, never_loaded, not_long, one_refusal}
 use Rattle.tink_io.specs.Statuses.{kind_status}
@@ -100,7 +100,7 @@ module _ {L : Type 0} (loading : Result L Kind) (Refuses : Outside → Outside �
   -- ---- what a status promises
 
   -- where neither end fails, a keyset loads and the input fits, a refusal is the input's own
-  pub refused_told : (old new : Outside) (kind : Kind) (T G : List ℕ) (loaded : L) → InputRefused loading (Refuses old new) old new kind → Told old T G → HasNoFault old new
+  pub refused_told : (old new : Outside) (kind : Kind) (T G : List ℕ) (loaded : L) → InputRefused loading (Refuses old new) old new kind → AreKnown old T G → HasNoFault old new
       → loading ≡ Ok loaded → length T ≤ input_limit → (kind_status kind ≡ 10) ⊎ IsOfInput loading old new (λ l input. Refuses old new l input kind)
   refused_told old new OutOfMemory T G loaded m told faultless loads fits = inl refl
   refused_told old new BadKeyset T G loaded m told faultless loads fits = absurd (never_loaded loading BadKeyset loaded m.cause loads)
@@ -115,7 +115,7 @@ module _ {L : Type 0} (loading : Result L Kind) (Refuses : Outside → Outside �
   refused_told old new _ T G loaded m told faultless loads fits = inr m
 
   -- an input that is too long
-  pub too_long : (old new : Outside) (kind : Kind) (T G : List ℕ) → InputRefused loading (Refuses old new) old new kind → Told old T G → HasNoFault old new → HasTooMuch loading T
+  pub too_long : (old new : Outside) (kind : Kind) (T G : List ℕ) → InputRefused loading (Refuses old new) old new kind → AreKnown old T G → HasNoFault old new → HasTooMuch loading T
       → (kind_status kind ≡ 26) ⊎ (kind_status kind ≡ 10)
   too_long old new OutOfMemory T G m told faultless much = inr refl
   too_long old new BadKeyset T G m told faultless much = absurd (never_loaded loading BadKeyset much.loads.0 m.cause much.loads.1)

@@ -4,7 +4,7 @@ use Rattle.std.specs.Prelude.{Ok, Err, Option, Result, IfErr, IfOk, OnErr, OnOk,
 use Rattle.std.specs.Io.KnownBytes.{Appends}
 use Rattle.wire_format.specs.Message.{decoded}
 use Rattle.tink_io.specs.Faults.{Rose}
-use Rattle.tink_io.specs.Told.{or_refused}
+use Rattle.tink_io.specs.Answering.{or_refused}
 use Rattle.tink_io.specs.Written.{AppendsPrefix}
 use Rattle.tink_io.specs.declared.error.Kind.{Kind}
 use Rattle.tink_io.specs.declared.error.Kind.TheVariants.{OutOfMemory, WriteFault, BadKeyset, InvalidKeyset, UnknownTemplate, NoFreshId}

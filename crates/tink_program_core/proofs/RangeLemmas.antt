@@ -10,7 +10,7 @@ use Rattle.loading_model.specs.Loading.{Loaded, opening_keys}
 use Rattle.tink_io.specs.Taken.{LosesAtMost}
 use Rattle.tink_range.proofs.StreamRanges.{gives_slice, under_not_refused}
 use Rattle.tink_run.specs.AllKeys.{load}
-use Rattle.tink_io.specs.Outside.{Outside, HasNoFault, Told}
+use Rattle.tink_io.specs.Outside.{Outside, HasNoFault, AreKnown}
 use Rattle.tink_run.specs.Run.{CanOpen}
 use Rattle.tink_run.proofs.OpenLemmas.{chosen_lawful}
 use Rattle.tink_io.proofs.OutsideFacts.{told_appended}
@@ -123,18 +123,18 @@ module _ (keyset aad : List ℕ) (start len : ℕ) where
       (chosen_lawful keyset aad T loaded key loads here) (subst (λ x. IsStream key x texts) all stream) n r in
       record { written = told_appended old.got new.got G _ got gave.0; count = gave.1 }
 
-  whole : (old new : Outside) (n : ℕ) → IsOfInput (load keyset) old new (λ loaded input. RangesInput aad start len old new loaded input (Ok n)) → (T G : List ℕ) → Told old T G
+  whole : (old new : Outside) (n : ℕ) → IsOfInput (load keyset) old new (λ loaded input. RangesInput aad start len old new loaded input (Ok n)) → (T G : List ℕ) → AreKnown old T G
       → IsRangeWhole keyset aad start len T old new
   whole old new n m T G told =
       let h = of_told (load keyset) (λ loaded input. RangesInput aad start len old new loaded input (Ok n)) old new T G told m in
       record { count = n; read = h; slice = slice T old new n h.loaded h.loads h.then }
 
-  stopped : (old new : Outside) (kind : Kind) → InputRefused (load keyset) (RefusesRange aad start len old new) old new kind → (T G : List ℕ) → Told old T G → kind_status kind ≡ 22
+  stopped : (old new : Outside) (kind : Kind) → InputRefused (load keyset) (RefusesRange aad start len old new) old new kind → (T G : List ℕ) → AreKnown old T G → kind_status kind ≡ 22
       → (n : ℕ) × StopsRange keyset aad start len n T old new
   stopped old new (BadSegment n) m T G told is = (n, of_told (load keyset) (λ loaded input. RefusesRange aad start len old new loaded input (BadSegment n)) old new T G told m)
   stopped old new _ m T G told is = absurd (omega (arith, is))
 
-  succeeds : (old new : Outside) (kind : Kind) → InputRefused (load keyset) (RefusesRange aad start len old new) old new kind → (T G : List ℕ) → Told old T G → HasNoFault old new
+  succeeds : (old new : Outside) (kind : Kind) → InputRefused (load keyset) (RefusesRange aad start len old new) old new kind → (T G : List ℕ) → AreKnown old T G → HasNoFault old new
       → CanOpen keyset aad T → length T ≤ input_limit → kind_status kind ≡ 10
   succeeds old new kind m T G told faultless can fits =
       elim (refused_told (load keyset) refuses late rose old new kind T G can.loaded m told faultless can.loads fits) [

@@ -11,7 +11,7 @@ use Rattle.tink_mac.specs.MacKinds.{kind_verifies}
 use Rattle.tink_mac.specs.Wrapped.{any_verifies}
 use Rattle.tink_mac.specs.Tokens.{spelled, IsAnswered}
 use Rattle.tink_io.specs.Taken.{LosesAtMost}
-use Rattle.tink_io.specs.Outside.{Outside, HasNoFault, Told}
+use Rattle.tink_io.specs.Outside.{Outside, HasNoFault, AreKnown}
 use Rattle.tink_tokens.specs.Inputs.{input_limit, IsOfInput, IsUnloadable, IsUnwritten}
 use Rattle.tink_tokens.specs.Tokens.{macs_of, CanAnswer, CannotAnswer, GaveOutput, Macs, RefusesSigning, RefusesVerifying, SignsTo, TokenMeans, TokenRefused, TokenRefuses, VerifiesTo}
 use Rattle.tink_tokens.proofs.ToldLemmas.{answered_whole, not_long, of_loaded}
@@ -59,11 +59,11 @@ module _ (Gives : Macs → List ℕ → List ℕ → Type 0) (Refuses : Macs →
     same_kind old new macs input WriteFault other faultless refuses cannot = absurd (faultless.writes refuses.1)
     same_kind old new macs input _ other faultless refuses cannot = one_kind macs input _ other refuses.0 cannot
 
-    of_refusal : (old new : Outside) (T G : List ℕ) (macs : Macs) (kind : Kind) → Told old T G → macs_of keyset ≡ Ok macs
+    of_refusal : (old new : Outside) (T G : List ℕ) (macs : Macs) (kind : Kind) → AreKnown old T G → macs_of keyset ≡ Ok macs
         → IsOfInput (macs_of keyset) old new (λ m input. TokenRefuses Gives Refuses old new m input kind) → TokenRefuses Gives Refuses old new macs T kind
     of_refusal old new T G macs kind told loads m = of_loaded (macs_of keyset) (λ l input. TokenRefuses Gives Refuses old new l input kind) old new T G macs told loads m
 
-    succeeds : (old new : Outside) (kind : Kind) → TokenRefused Gives Refuses keyset old new kind → (T G : List ℕ) → Told old T G → HasNoFault old new → CanAnswer Gives Refuses keyset T
+    succeeds : (old new : Outside) (kind : Kind) → TokenRefused Gives Refuses keyset old new kind → (T G : List ℕ) → AreKnown old T G → HasNoFault old new → CanAnswer Gives Refuses keyset T
         → kind_status kind ≡ 10
     succeeds old new kind m T G told faultless can =
         elim (refused_told (macs_of keyset) (TokenRefuses Gives Refuses) late (rose Gives Refuses) old new kind T G can.macs m told faultless can.loads can.fits) [
@@ -71,7 +71,7 @@ module _ (Gives : Macs → List ℕ → List ℕ → Type 0) (Refuses : Macs →
           | inr h ↦ absurd (not_refused old new can.macs T can.output kind faultless can.gives (of_refusal old new T G can.macs kind told can.loads h))
         ]
 
-    refused : (old new : Outside) (kind : Kind) → TokenRefused Gives Refuses keyset old new kind → (T G : List ℕ) (other : Kind) → Told old T G → HasNoFault old new
+    refused : (old new : Outside) (kind : Kind) → TokenRefused Gives Refuses keyset old new kind → (T G : List ℕ) (other : Kind) → AreKnown old T G → HasNoFault old new
         → CannotAnswer Gives Refuses keyset T other → (kind_status kind ≡ kind_status other) ⊎ (kind_status kind ≡ 10)
     refused old new kind m T G other told faultless cannot =
         elim (refused_told (macs_of keyset) (TokenRefuses Gives Refuses) late (rose Gives Refuses) old new kind T G cannot.macs m told faultless cannot.loads cannot.fits) [
@@ -80,7 +80,7 @@ module _ (Gives : Macs → List ℕ → List ℕ → Type 0) (Refuses : Macs →
         ]
 
     -- given, an input is not refused
-    answered : {A : Type 0} (old new : Outside) (T G : List ℕ) (kind : Kind) → IsOfInput (macs_of keyset) old new (λ macs input. GaveOutput Gives macs input old new Appends) → Told old T G
+    answered : {A : Type 0} (old new : Outside) (T G : List ℕ) (kind : Kind) → IsOfInput (macs_of keyset) old new (λ macs input. GaveOutput Gives macs input old new Appends) → AreKnown old T G
         → CannotAnswer Gives Refuses keyset T kind → A
     answered old new T G kind m told cannot =
         let gave = of_loaded (macs_of keyset) (λ macs input. GaveOutput Gives macs input old new Appends) old new T G cannot.macs told cannot.loads m in

@@ -9,7 +9,7 @@ use Rattle.tink_io.specs.declared.error.Kind.TheVariants.{OutOfMemory, BadKeyset
 use Rattle.tink_io.specs.declared.error.TinkError.{TinkError}
 use Rattle.tink_io.specs.Statuses.{kind_status}
 use Rattle.tink_run.specs.AllKeys.{load}
-pub use Rattle.tink_io.specs.Outside.{outside_of}
+pub use Rattle.tink_io.specs.Outside.{outside}
 use Rattle.tink_io.specs.Outside.{Outside, IsUntouched}
 use Rattle.tink_run.specs.declared.report.Command.TheVariants.{Seal}
 use Rattle.tink_rewrap.specs.SetRanges.{WritesNoRange}

@@ -8,7 +8,7 @@ use Rattle.tink_io.specs.Taken.{LosesAtMost}
 use Rattle.tink_range.specs.ChunkReading.{Moments}
 use Rattle.tink_range.specs.KeyRanges.{RangesUnder}
 use Rattle.tink_run.specs.AllKeys.{load}
-use Rattle.tink_io.specs.Outside.{Outside, HasNoFault, Told}
+use Rattle.tink_io.specs.Outside.{Outside, HasNoFault, AreKnown}
 use Rattle.tink_run.specs.Run.{CanOpen}
 use Rattle.tink_rewrap.specs.KeysetRanges.{GivesSlice}
 use Rattle.tink_tokens.specs.Inputs.{input_limit, HasTooMuch, InputRefused, IsOfInput, IsReadWhole, IsUnloadable}
@@ -71,11 +71,11 @@ module _ (keyset aad : List ℕ) (start len : ℕ) where
   -- what 0 and 22 promise; where neither end fails, when 0 and when 26 come; and how much is taken of the source at most,
   -- whatever the status
   pub record RangePromises (status_of_kind : Kind → ℕ) (old new : Outside) (status : ℕ) : Type 0 where
-    pub whole : (T G : List ℕ) → Told old T G → status ≡ 0 → IsRangeWhole T old new
-    pub stopped : (T G : List ℕ) → Told old T G → status ≡ 22 → (n : ℕ) × StopsRange n T old new
-    pub succeeds : (T G : List ℕ) → Told old T G → HasNoFault old new → CanOpen keyset aad T → length T ≤ input_limit
+    pub whole : (T G : List ℕ) → AreKnown old T G → status ≡ 0 → IsRangeWhole T old new
+    pub stopped : (T G : List ℕ) → AreKnown old T G → status ≡ 22 → (n : ℕ) × StopsRange n T old new
+    pub succeeds : (T G : List ℕ) → AreKnown old T G → HasNoFault old new → CanOpen keyset aad T → length T ≤ input_limit
         → IsDoneOrWant status
-    pub long : (T G : List ℕ) → Told old T G → HasNoFault old new → HasTooMuch (load keyset) T
+    pub long : (T G : List ℕ) → AreKnown old T G → HasNoFault old new → HasTooMuch (load keyset) T
         → (status ≡ status_of_kind InputTooLong) ⊎ (status ≡ 10)
     pub taken : LosesAtMost (input_limit + 1) old.left new.left
 

@@ -1,12 +1,12 @@
 -- The commands of streams: what a run gave, and what it promises by the status.
 use Rattle.std.specs.Prelude.{◌≡◌, ◌⊎◌, ℕ, List, [], Result, Ok, Err, IfOk}
-use Rattle.stream_model.specs.Sealing.{prefix_of, salt_of}
+use Rattle.stream_model.specs.Sealing.{nonce_prefix_of, salt_of}
 use Rattle.loading_model.specs.Loading.{Loaded}
 use Rattle.tink_io.specs.declared.error.Kind.{Kind}
 use Rattle.tink_io.specs.declared.error.Kind.TheVariants.{OutOfMemory, RandomFault}
 use Rattle.tink_io.specs.declared.error.TinkError.{TinkError}
 use Rattle.tink_run.specs.AllKeys.{load}
-use Rattle.tink_io.specs.Outside.{Outside, IsUntouched, HasNoFault, Told}
+use Rattle.tink_io.specs.Outside.{Outside, IsUntouched, HasNoFault, AreKnown}
 use Rattle.tink_run.specs.Run.{AnswerMeans, OkMeans, IsWholeStream, IsWholeText, IsOfAgreeing, OnlyAgreeing, CanSeal, CanOpen, IsComplete, LeavesEnds, LeavesSinkItself}
 use Rattle.tink_run.specs.OpenReads.{ReadsNoFurther}
 use Rattle.tink_run.specs.SealAnswers.{SourceFailed}
@@ -25,7 +25,7 @@ pub record Ran (command : Command) (keyset aad draws : List ℕ) (old new : Outs
   pub left_draws : List ℕ
   pub means : AnswerMeans command keyset aad draws left_draws old new answer
   pub ok : IfOk answer
-      (λ report. (T G : List ℕ) → Told old T G → OkMeans command keyset aad draws left_draws T G new report)
+      (λ report. (T G : List ℕ) → AreKnown old T G → OkMeans command keyset aad draws left_draws T G new report)
   pub written : OnlyAgreeing command keyset aad old new
   pub succeeds : IsComplete command keyset aad draws old new answer
   pub read : ReadsNoFurther command keyset aad old new answer
@@ -72,7 +72,7 @@ IsDoneOrWant status = (status ≡ 0) ⊎ (status ≡ 10)
 
 -- known bytes: a seal with status 0 has written exactly the stream of the whole text under the seed's draws
 abbrev pub SealsWhole : List ℕ → List ℕ → List ℕ → Outside → Outside → ℕ → Type 0
-SealsWhole keyset aad seed old new status = (T G : List ℕ) → Told old T G → status ≡ 0
+SealsWhole keyset aad seed old new status = (T G : List ℕ) → AreKnown old T G → status ≡ 0
     → (report : Report) × (left_draws : List ℕ)
     × IsWholeStream keyset aad (draws_in seed 256) left_draws T G new report
 
@@ -81,11 +81,11 @@ abbrev pub StopsUnmarked : List ℕ → List ℕ → List ℕ → Outside → Ou
 StopsUnmarked keyset aad seed old new status = status ≡ 11
     → (loaded : Loaded) × (load keyset ≡ Ok loaded)
     × SourceFailed loaded.primary aad (salt_of loaded.primary (draws_in seed 256))
-    (prefix_of loaded.primary (draws_in seed 256)) old new
+    (nonce_prefix_of loaded.primary (draws_in seed 256)) old new
 
 -- known bytes: a seal that can succeed where neither end fails does, or there is no memory
 abbrev pub SealSucceeds : List ℕ → List ℕ → List ℕ → Outside → Outside → ℕ → Type 0
-SealSucceeds keyset aad seed old new status = (T G : List ℕ) → Told old T G → HasNoFault old new
+SealSucceeds keyset aad seed old new status = (T G : List ℕ) → AreKnown old T G → HasNoFault old new
     → CanSeal keyset aad (draws_in seed 256) T → IsDoneOrWant status
 
 -- what a status promises of a seal
@@ -101,16 +101,16 @@ pub record SealPromises (keyset aad seed : List ℕ) (old new : Outside) (status
 
 -- known bytes: an open with status 0 had exactly a stream of the chosen key, and has written its text
 abbrev pub OpensWhole : List ℕ → List ℕ → Outside → Outside → ℕ → Type 0
-OpensWhole keyset aad old new status = (S G : List ℕ) → Told old S G → status ≡ 0
+OpensWhole keyset aad old new status = (S G : List ℕ) → AreKnown old S G → status ≡ 0
     → (report : Report) × IsWholeText keyset aad S G new report
 
 -- known bytes: an open, whatever its status, has written only a prefix of the texts that agree under the chosen key
 abbrev pub WritesAgreeing : List ℕ → List ℕ → Outside → Outside → Type 0
-WritesAgreeing keyset aad old new = (S G : List ℕ) → Told old S G → IsOfAgreeing keyset aad S old new
+WritesAgreeing keyset aad old new = (S G : List ℕ) → AreKnown old S G → IsOfAgreeing keyset aad S old new
 
 -- known bytes: an open that can succeed where neither end fails does, or there is no memory
 abbrev pub OpenSucceeds : List ℕ → List ℕ → Outside → Outside → ℕ → Type 0
-OpenSucceeds keyset aad old new status = (S G : List ℕ) → Told old S G → HasNoFault old new
+OpenSucceeds keyset aad old new status = (S G : List ℕ) → AreKnown old S G → HasNoFault old new
     → CanOpen keyset aad S → IsDoneOrWant status
 
 -- what a status promises of an open
@@ -129,7 +129,7 @@ pub record Moved (sides : Sides) (draws : List ℕ) (old new : Outside) (answer 
   pub left_draws : List ℕ
   pub means : RewrapMeans sides draws left_draws old new answer
   pub ok : IfOk answer
-      (λ report. (S G : List ℕ) → Told old S G → IsWholeRewrap sides draws left_draws S G new report)
+      (λ report. (S G : List ℕ) → AreKnown old S G → IsWholeRewrap sides draws left_draws S G new report)
   pub unended : LeavesUnended sides draws old new answer
   pub succeeds : CompletesRewrap sides draws old new answer
 
@@ -152,7 +152,7 @@ IsUnmovable sides kind = (load sides.from ≡ Err kind) ⊎ SecondRefused sides 
 -- known bytes: a rewrap with status 0 had exactly a stream of the chosen key of the first keyset, and has written exactly the
 -- stream of its text under the primary key of the second one and the seed's draws
 abbrev pub MovesWhole : Sides → List ℕ → Outside → Outside → ℕ → Type 0
-MovesWhole sides seed old new status = (S G : List ℕ) → Told old S G → status ≡ 0
+MovesWhole sides seed old new status = (S G : List ℕ) → AreKnown old S G → status ≡ 0
     → (report : Report) × (left_draws : List ℕ) × IsWholeRewrap sides (draws_in seed 256) left_draws S G new report
 
 -- known bytes: a status is that of an answer, and by all but success and a fault of the sink no last segment was written,
@@ -163,7 +163,7 @@ EndsNone status_by sides seed old new status =
 
 -- known bytes: a rewrap that can succeed where neither end fails does, or there is no memory
 abbrev pub RewrapSucceeds : Sides → List ℕ → Outside → Outside → ℕ → Type 0
-RewrapSucceeds sides seed old new status = (S G : List ℕ) → Told old S G → HasNoFault old new
+RewrapSucceeds sides seed old new status = (S G : List ℕ) → AreKnown old S G → HasNoFault old new
     → CanRewrap sides (draws_in seed 256) S → IsDoneOrWant status
 
 -- what a status promises of a rewrap

@@ -1,7 +1,7 @@
 //! All of the commands, by what was read of the words.
 
 ghost use Rattle.std.specs.Prelude.{◌≡◌, true};
-ghost use Rattle.tink_io.specs.Outside.{outside_of};
+ghost use Rattle.tink_io.specs.Outside.{outside};
 ghost use Rattle.tink_program_core.specs.Program.{CommandMeans, DoesAsked, IsUnwrittenBy, Leaves, Promises, reads_first, status_of, takes_no_input};
 ghost use Rattle.tink_program_core.specs.Words.{asked_of};
 
@@ -19,7 +19,7 @@ use tink_tokens::{write_payload, write_token};
 ///
 /// # Errors
 /// The outcome is the kind of the command's error; `CommandMeans` lists those of each command.
-pub fn done<S: Source, K: Sink>(
+pub fn run_parsed<S: Source, K: Sink>(
     alloc: Global,
     parsed: Parsed,
     seed: Seed,
@@ -27,15 +27,15 @@ pub fn done<S: Source, K: Sink>(
     sink: &mut K,
 ) -> Outcome
     ensures means { CommandMeans (asked_of parsed seed)
-        (outside_of S.left S.faults K.got K.faults source.old sink.old)
-        (outside_of S.left S.faults K.got K.faults source.new sink.new)
+        (outside S.Source K.Sink source.old sink.old)
+        (outside S.Source K.Sink source.new sink.new)
         result }
     ensures early { Leaves (reads_first (asked_of parsed seed)) (λ kind. IsUnwrittenBy (asked_of parsed seed) kind)
         result source.old source.new sink.old sink.new }
     ensures kept { takes_no_input (asked_of parsed seed) ≡ true → source.new ≡ source.old }
     ensures promised { Promises (asked_of parsed seed)
-        (outside_of S.left S.faults K.got K.faults source.old sink.old)
-        (outside_of S.left S.faults K.got K.faults source.new sink.new)
+        (outside S.Source K.Sink source.old sink.old)
+        (outside S.Source K.Sink source.new sink.new)
         (status_of result) }
     ensures source { S.same source.old source.new }
     ensures sink { K.same sink.old sink.new }
@@ -43,7 +43,7 @@ pub fn done<S: Source, K: Sink>(
     done_by(alloc, &parsed, seed, source, sink)
 }
 
-// What `done` answers. It lets go of nothing, and all that `done` promises follows from its clause.
+// What `run_parsed` answers. It lets go of nothing, and all that `run_parsed` promises follows from its clause.
 fn done_by<S: Source, K: Sink>(
     alloc: Global,
     parsed: &Parsed,
@@ -52,8 +52,8 @@ fn done_by<S: Source, K: Sink>(
     sink: &mut K,
 ) -> Outcome
     ensures { DoesAsked S.same K.same (asked_of parsed.now seed)
-        (outside_of S.left S.faults K.got K.faults source.old sink.old)
-        (outside_of S.left S.faults K.got K.faults source.new sink.new)
+        (outside S.Source K.Sink source.old sink.old)
+        (outside S.Source K.Sink source.new sink.new)
         result source.old source.new sink.old sink.new }
 {
     match parsed {

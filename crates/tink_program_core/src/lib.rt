@@ -9,6 +9,6 @@ mod ranges;
 mod streams;
 mod words;
 
-pub use commands::done;
+pub use commands::run_parsed;
 pub use outcomes::{Outcome, status, tell};
 pub use words::{Parsed, Seed, number_of, parse};

@@ -5,7 +5,7 @@ ghost use Rattle.loading_model.specs.Loading.{AreUsable, Loaded, opening_keys};
 ghost use Rattle.tink_io.specs.Taken.{LosesAtMost};
 ghost use Rattle.tink_program_core.specs.Ranges.{HoldsNoInput, RangeAnswer};
 ghost use Rattle.tink_run.specs.HeldKeys.{HoldsLoaded};
-ghost use Rattle.tink_io.specs.Outside.{outside_of};
+ghost use Rattle.tink_io.specs.Outside.{outside};
 ghost use Rattle.tink_rewrap.specs.SetRanges.{LeavesRangeEnds, LeavesUnwritten, RangesOf, WritesNoRange};
 ghost use Rattle.tink_tokens.specs.Inputs.{IsUnloadable, input_limit};
 
@@ -38,8 +38,8 @@ pub fn write_range<S: Source, K: Sink>(
     sink: &mut K,
 ) -> Result<u64, TinkError>
     ensures answer { RangeAnswer args.now.keyset.items args.now.aad.items args.now.start args.now.len
-        (outside_of S.left S.faults K.got K.faults source.old sink.old)
-        (outside_of S.left S.faults K.got K.faults source.new sink.new)
+        (outside S.Source K.Sink source.old sink.old)
+        (outside S.Source K.Sink source.new sink.new)
         result }
     ensures taken { LosesAtMost (input_limit + 1) (S.left source.old) (S.left source.new) }
     ensures unread { IfErr result (λ e. IsUnloadable e.kind → source.new ≡ source.old) }

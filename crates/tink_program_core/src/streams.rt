@@ -2,7 +2,7 @@
 
 ghost use Rattle.std.specs.Prelude.{[]};
 ghost use Rattle.tink_run.specs.declared.report.Command.TheVariants.{Seal, Open};
-ghost use Rattle.tink_io.specs.Outside.{outside_of};
+ghost use Rattle.tink_io.specs.Outside.{outside};
 ghost use Rattle.tink_program_core.specs.Draws.{draws_in};
 ghost use Rattle.tink_program_core.specs.Streams.{Moved, Ran, SparesEnds};
 ghost use Rattle.tink_program_core.specs.Words.{sides_of};
@@ -26,8 +26,8 @@ pub fn run_seal<S: Source, K: Sink>(
     sink: &mut K,
 ) -> Result<Report, TinkError>
     ensures ran { Ran Seal args.now.keyset.items args.now.aad.items (draws_in seed 256)
-        (outside_of S.left S.faults K.got K.faults source.old sink.old)
-        (outside_of S.left S.faults K.got K.faults source.new sink.new)
+        (outside S.Source K.Sink source.old sink.old)
+        (outside S.Source K.Sink source.new sink.new)
         result }
     ensures ends { SparesEnds result source.old source.new sink.old sink.new }
     ensures source { S.same source.old source.new }
@@ -56,8 +56,8 @@ pub fn run_open<S: Source, K: Sink>(
     sink: &mut K,
 ) -> Result<Report, TinkError>
     ensures ran { Ran Open args.now.keyset.items args.now.aad.items []
-        (outside_of S.left S.faults K.got K.faults source.old sink.old)
-        (outside_of S.left S.faults K.got K.faults source.new sink.new)
+        (outside S.Source K.Sink source.old sink.old)
+        (outside S.Source K.Sink source.new sink.new)
         result }
     ensures ends { SparesEnds result source.old source.new sink.old sink.new }
     ensures source { S.same source.old source.new }
@@ -88,8 +88,8 @@ pub fn run_rewrap<S: Source, K: Sink>(
     sink: &mut K,
 ) -> Result<Report, TinkError>
     ensures moved { Moved (sides_of args.now) (draws_in seed 256)
-        (outside_of S.left S.faults K.got K.faults source.old sink.old)
-        (outside_of S.left S.faults K.got K.faults source.new sink.new)
+        (outside S.Source K.Sink source.old sink.old)
+        (outside S.Source K.Sink source.new sink.new)
         result }
     ensures ends { SparesEnds result source.old source.new sink.old sink.new }
     ensures source { S.same source.old source.new }

@@ -109,11 +109,11 @@ pub fn parse(alloc: Global, words: &Vec<String>) -> Result<Option<(Parsed, Seed)
     ensures none { IfOk result (λ o. IfNone o (SpellNothing (words_of words.now))) }
     ensures refused { IfErr result (λ e. e ≡ record { kind = OutOfMemory }) }
 {
-    told(read(alloc, words.as_slice()))
+    none_if_nothing(read(alloc, words.as_slice()))
 }
 
 // What was read, where there was something.
-fn told<T>(answer: Result<T, Unread>) -> Result<Option<T>, TinkError>
+fn none_if_nothing<T>(answer: Result<T, Unread>) -> Result<Option<T>, TinkError>
     ensures { result ≡ told answer }
 {
     match answer {
@@ -306,7 +306,7 @@ pub fn number_of(alloc: Global, word: &str, most: u64) -> Result<Option<u64>, Ti
     ensures none { IfOk result (λ o. IfNone o ((n : ℕ) → IsNumberWord most word.now n → ⊥)) }
     ensures refused { IfErr result (λ e. e ≡ record { kind = OutOfMemory }) }
 {
-    told(number_in(alloc, word, most))
+    none_if_nothing(number_in(alloc, word, most))
 }
 
 // The number of a word.

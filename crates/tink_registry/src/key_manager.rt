@@ -3,7 +3,7 @@
 ghost use Rattle.std.specs.Prelude.{◌≡◌, ℕ, List, Bool, Result, Ok, Err, true, false};
 ghost use Rattle.tink_io.specs.declared.error.Kind.{Kind};
 ghost use Rattle.tink_io.specs.declared.error.Kind.TheVariants.{NoPrivateKeys};
-ghost use Rattle.tink_io.specs.Told.{Answers, Replies};
+ghost use Rattle.tink_io.specs.Answering.{Answers, Replies};
 ghost use Rattle.tink_proto.specs.declared.messages.keys.KeyData.{KeyData};
 ghost use Rattle.tink_proto.specs.declared.enums.KeyMaterialType.{KeyMaterialType};
 ghost use Rattle.tink_primitives.specs.Meaning.{IsTold, IsDrawn};

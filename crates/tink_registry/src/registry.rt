@@ -3,7 +3,7 @@
 ghost use Rattle.std.specs.Prelude.{◌≡◌, ◌++◌, ◌∷◌, [], None, Some, true, false, is_some, OnOk, OnErr};
 ghost use Rattle.std.specs.Prelude.{IfOk, IfErr, MatchResult, MatchOption};
 ghost use Rattle.tink_io.specs.declared.error.Kind.TheVariants.{OutOfMemory, UnsupportedKeyType, AlreadyRegistered};
-ghost use Rattle.tink_io.specs.Told.{Answers, OutOfMemoryOr, Replies};
+ghost use Rattle.tink_io.specs.Answering.{Answers, OutOfMemoryOr, Replies};
 ghost use Rattle.tink_registry.specs.Listed.{AddsManager, AreRising, PutsTemplate, are_all_fresh, manager_of, names_of};
 ghost use Rattle.tink_registry.specs.Listed.{registry_builds, registry_makes, template_of, with_all, with_template};
 

@@ -11,7 +11,7 @@ use Rattle.tink_io.specs.declared.error.Kind.TheVariants.{OutOfMemory, ReadFault
 use Rattle.tink_io.specs.declared.error.TinkError.{TinkError}
 use Rattle.stream_model.specs.Key.{StreamKey}
 use Rattle.stream_model.specs.Opening.{OpeningKey, IsChosen}
-use Rattle.stream_model.specs.Sealing.{prefix_of, salt_of}
+use Rattle.stream_model.specs.Sealing.{nonce_prefix_of, salt_of}
 use Rattle.tink_io.specs.Gathering.{IsCutShort, OnlyGrows}
 use Rattle.tink_io.proofs.GatheringLemmas.{grows_then}
 use Rattle.tink_run.specs.declared.report.Report.{Report}
@@ -137,7 +137,7 @@ module _ (ks js : List OpeningKey) (k : StreamKey) (aad draws left_draws : List 
 
     refused_cut : HasKey js old → (kind : Kind) → RefusesUnder ks made old first_end kind → RefusesUnder js made old new WriteFault
     refused_cut begun NoMatchingKey r = breaks begun [] (Err (record { kind = NoMatchingKey })) r.opened (kept_prefix old.got told (made.part []) r.written)
-    refused_cut begun TooManySegments (inl r) = breaks_led begun r.text r.opened (longest_prefix k aad (salt_of k draws) (prefix_of k draws) r.text old.got told r.written)
+    refused_cut begun TooManySegments (inl r) = breaks_led begun r.text r.opened (longest_prefix k aad (salt_of k draws) (nonce_prefix_of k draws) r.text old.got told r.written)
     refused_cut begun TooManySegments (inr r) = breaks begun r.text (Err (record { kind = TooManySegments })) r.opened (whole_prefix old.got told (made.part r.text) r.written)
     refused_cut begun (Truncated n) r = breaks begun r.text (Err (record { kind = Truncated n })) r.opened (whole_prefix old.got told (made.part r.text) r.written)
     refused_cut begun (BadSegment n) r = breaks begun r.text (Err (record { kind = BadSegment n })) r.opened (whole_prefix old.got told (made.part r.text) r.written)

@@ -14,7 +14,7 @@ use Rattle.stream_model.specs.Agree.{joined}
 use Rattle.stream_model.specs.Cut.{full_chunks, open_chunk, room_at, unmarked}
 use Rattle.stream_model.specs.Key.{StreamKey, first_room, front, keys_of, room, segment_at}
 use Rattle.stream_model.specs.Opening.{OpeningKey, AgreeBy, IsAgreed, IsChosen, IsStream, chunks_of, header_of}
-use Rattle.stream_model.specs.Sealing.{chunk_count, longest_part, part, prefix_of, salt_of, stream, unmarked_under}
+use Rattle.stream_model.specs.Sealing.{chunk_count, longest_part, part, nonce_prefix_of, salt_of, stream, unmarked_under}
 use Rattle.stream_model.proofs.CutFacts.{full_chunks-append, full_chunks_fits, unmarked-append}
 use Rattle.stream_model.proofs.KeyFacts.{CanOpen as Lawful}
 use Rattle.stream_model.proofs.OpeningFacts.{IsChosen-unique, leads_on}
@@ -23,7 +23,7 @@ use Rattle.loading_model.specs.Loading.{Loaded, opening_keys}
 use Rattle.tink_run.specs.AllKeys.{load}
 use Rattle.tink_run.specs.declared.report.Report.{Report}
 use Rattle.tink_run.specs.OpenAnswers.{AgreesUntil, AreTextsBy, IsBroken, Lead, OpeningMeans, OpeningRefused}
-use Rattle.tink_io.specs.Outside.{Outside, HasNoFault, IsUntouched, Told}
+use Rattle.tink_io.specs.Outside.{Outside, HasNoFault, IsUntouched, AreKnown}
 use Rattle.tink_run.specs.Run.{IsOfAgreeing, IsWholeText}
 use Rattle.tink_run.proofs.OpenLemmas.{chosen_lawful, kept_prefix, open_agreeing, open_succeeds, same_loaded, stream_agreeing, stream_agrees, stream_complete, whole_prefix}
 use Rattle.tink_run.proofs.LoadedFacts.{loaded_usable}
@@ -95,8 +95,8 @@ stream_is_agreed k S ts law s = let w = stream_agrees k S ts law s in go (k.seg 
     }
 
 -- known bytes, and a keyset that loads
-module _ (keyset aad S G : List ℕ) (l : Loaded) (old new : Outside) (told : Told old S G) (loads : load keyset ≡ Ok l) where
-  told_in : Told (into [] old) S []
+module _ (keyset aad S G : List ℕ) (l : Loaded) (old new : Outside) (told : AreKnown old S G) (loads : load keyset ≡ Ok l) where
+  told_in : AreKnown (into [] old) S []
   told_in = record { left = told.left; got = refl }
 
   -- the whole text
@@ -121,7 +121,7 @@ untouched_keeps : (old new : Outside) → IsUntouched old new → Keeps old.got 
 untouched_keeps old new u = subst (λ (m : Outside). Keeps old.got m.got) (sym u) (Keeps-refl old.got)
 
 -- a success, over known bytes
-rewrapped : (s : Sides) (draws left_draws S G : List ℕ) (old new : Outside) (report : Report) → RewrapMeans s draws left_draws old new (Ok report) → Told old S G → IsWholeRewrap s draws left_draws S G new report
+rewrapped : (s : Sides) (draws left_draws S G : List ℕ) (old new : Outside) (report : Report) → RewrapMeans s draws left_draws old new (Ok report) → AreKnown old S G → IsWholeRewrap s draws left_draws S G new report
 rewrapped s draws left_draws S G old new report r t =
     let x = r.means.means in
     let w = whole_text s.from s.from_aad S G r.from_loaded old new t r.from_loads x.text x.accepted x.opened.0 in
@@ -135,8 +135,8 @@ rewrapped s draws left_draws S G old new report r t =
       key = w.key;
       chosen = w.chosen;
       texts = w.texts;
-      written = told_appended old.got new.got G (stream k s.to_aad (salt_of k draws) (prefix_of k draws) (joined w.texts)) t.got
-          (subst (λ (xs : List ℕ). Appends old.got new.got (stream k s.to_aad (salt_of k draws) (prefix_of k draws) xs)) text x.written);
+      written = told_appended old.got new.got G (stream k s.to_aad (salt_of k draws) (nonce_prefix_of k draws) (joined w.texts)) t.got
+          (subst (λ (xs : List ℕ). Appends old.got new.got (stream k s.to_aad (salt_of k draws) (nonce_prefix_of k draws) xs)) text x.written);
       stream = w.stream;
       at_end = w.at_end;
       rest = r.means.rest;
@@ -148,19 +148,19 @@ rewrapped s draws left_draws S G old new report r t =
     text_is xs ys e = cc
 
 pub succeeds : (s : Sides) (draws left_draws : List ℕ) (old new : Outside) (answer : Result Report TinkError) → RewrapMeans s draws left_draws old new answer
-    → IfOk answer (λ report. (S G : List ℕ) → Told old S G → IsWholeRewrap s draws left_draws S G new report)
+    → IfOk answer (λ report. (S G : List ℕ) → AreKnown old S G → IsWholeRewrap s draws left_draws S G new report)
 succeeds s draws left_draws old new (Ok report) r = λ S G t. rewrapped s draws left_draws S G old new report r t
 succeeds s draws left_draws old new (Err e) r = tt
 
 -- ---- no end where there is none
 
 -- two keysets that load, and known bytes
-module _ (s : Sides) (draws S G : List ℕ) (old new : Outside) (told : Told old S G) (l m : Loaded) (from : load s.from ≡ Ok l) (to : load s.to ≡ Ok m) where
+module _ (s : Sides) (draws S G : List ℕ) (old new : Outside) (told : AreKnown old S G) (l m : Loaded) (from : load s.from ≡ Ok l) (to : load s.to ≡ Ok m) where
   abbrev keys : List OpeningKey
   keys = opening_keys s.from_aad l
 
   abbrev made : List ℕ → List ℕ
-  made = part m.primary s.to_aad (salt_of m.primary draws) (prefix_of m.primary draws)
+  made = part m.primary s.to_aad (salt_of m.primary draws) (nonce_prefix_of m.primary draws)
 
   abbrev Passes : Result Report TinkError → Type 0
   Passes answer = PassMeans (OpeningMeans keys) (IsBroken keys) (HasKey keys) (bytes_under m.primary s.to_aad draws) old new answer
@@ -179,12 +179,12 @@ module _ (s : Sides) (draws S G : List ℕ) (old new : Outside) (told : Told old
     of_agreed : (text : List ℕ) → IsOfAgreeing s.from s.from_aad S (into [] old) (into text new) → AppendsPrefix old.got new.got (made text) → AppendsPrefix old.got new.got (made (joined texts))
     of_agreed text a w =
         let f = a.under_a_key l key texts from chosen agreed in
-        part_prefix m.primary s.to_aad (salt_of m.primary draws) (prefix_of m.primary draws) f.0 text (joined texts) old.got new.got first_some later_some f.2 w
+        part_prefix m.primary s.to_aad (salt_of m.primary draws) (nonce_prefix_of m.primary draws) f.0 text (joined texts) old.got new.got first_some later_some f.2 w
 
     of_led : (text : List ℕ) → IsBroken keys (into [] old) (into text new) → AppendsPrefix old.got new.got (made text) → AppendsPrefix old.got new.got (made (joined texts))
     of_led text b w =
         let f = broken_agreeing s.from s.from_aad S G l old new told from text key texts b chosen agreed in
-        part_prefix m.primary s.to_aad (salt_of m.primary draws) (prefix_of m.primary draws) f.0 text (joined texts) old.got new.got first_some later_some f.2 w
+        part_prefix m.primary s.to_aad (salt_of m.primary draws) (nonce_prefix_of m.primary draws) f.0 text (joined texts) old.got new.got first_some later_some f.2 w
 
     is_stream : (text : List ℕ) (accepted : ℕ) → OpeningMeans keys (into [] old) (into text new) (Ok (record { segments = accepted; bytes = length text })) → (ts : List (List ℕ)) × IsStream key S ts
     is_stream text accepted o =
@@ -199,7 +199,7 @@ module _ (s : Sides) (draws S G : List ℕ) (old new : Outside) (told : Told old
 
     refused_unended : (e : TinkError) → (MayEnd (Err e) key S → ⊥) → (kind : Kind) → e.kind ≡ kind → Refused kind → AppendsPrefix old.got new.got (made (joined texts))
     refused_unended e may NoMatchingKey same x = kept_prefix old.got new.got (made (joined texts)) x.written
-    refused_unended e may TooManySegments same (inl x) = of_led x.text x.opened (longest_prefix m.primary s.to_aad (salt_of m.primary draws) (prefix_of m.primary draws) x.text old.got new.got x.written)
+    refused_unended e may TooManySegments same (inl x) = of_led x.text x.opened (longest_prefix m.primary s.to_aad (salt_of m.primary draws) (nonce_prefix_of m.primary draws) x.text old.got new.got x.written)
     refused_unended e may TooManySegments same (inr x) = stops TooManySegments x
     refused_unended e may (Truncated n) same x = stops (Truncated n) x
     refused_unended e may (BadSegment n) same x = stops (BadSegment n) x
@@ -311,7 +311,7 @@ wrote_of s draws left_draws old new (Err e) r = go e.kind r
     go WriteFault x = wrote_loaded s draws left_draws old new (Err e) x
     go _ x = absurd x
 
-ended_nowhere : (s : Sides) (draws S G : List ℕ) (old new : Outside) (answer : Result Report TinkError) → Told old S G → Wrote s draws old new answer → IsUnended s draws S old new answer
+ended_nowhere : (s : Sides) (draws S G : List ℕ) (old new : Outside) (answer : Result Report TinkError) → AreKnown old S G → Wrote s draws old new answer → IsUnended s draws S old new answer
 ended_nowhere s draws S G old new answer t (Nothing u) = record {
   under_a_key = λ l m key texts from to chosen agreed may. kept_prefix old.got new.got _ (untouched_keeps old new u);
   under_none = λ l from none. untouched_keeps old new u;
@@ -322,7 +322,7 @@ ended_nowhere s draws S G old new answer t (Passed l m from to x) = record {
   under_a_key = λ i j key texts p q chosen agreed may.
       let of_from : i ≡ l = same_loaded s.from i l p from in
       let of_to : m ≡ j = same_loaded s.to m j to q in
-      subst (λ (y : Loaded). AppendsPrefix old.got new.got (part y.primary s.to_aad (salt_of y.primary draws) (prefix_of y.primary draws) (joined texts))) of_to
+      subst (λ (y : Loaded). AppendsPrefix old.got new.got (part y.primary s.to_aad (salt_of y.primary draws) (nonce_prefix_of y.primary draws) (joined texts))) of_to
       (pass_unended s draws S G old new t l m from to key texts (subst (λ (y : Loaded). IsChosen (opening_keys s.from_aad y) S (Some key)) of_from chosen) agreed answer may x);
   under_none = λ i p none.
       let of_from : i ≡ l = same_loaded s.from i l p from in
@@ -338,7 +338,7 @@ unended s draws left_draws old new answer r = λ S G t. ended_nowhere s draws S 
 -- ---- success
 
 -- a text that can be passed on is refused for no other cause than a fault
-pass_complete : (s : Sides) (draws S G : List ℕ) (old new : Outside) (kind : Kind) (c : CanRewrap s draws S) → Told old S G → HasNoFault old new
+pass_complete : (s : Sides) (draws S G : List ℕ) (old new : Outside) (kind : Kind) (c : CanRewrap s draws S) → AreKnown old S G → HasNoFault old new
     → PassRefused (OpeningMeans (opening_keys s.from_aad c.from_loaded)) (IsBroken (opening_keys s.from_aad c.from_loaded)) (HasKey (opening_keys s.from_aad c.from_loaded)) (bytes_under c.to_loaded.primary s.to_aad draws) old new kind → ⊥
 pass_complete s draws S G old new kind c t n x = go kind x
   where
@@ -363,7 +363,7 @@ pass_complete s draws S G old new kind c t n x = go kind x
     go _ x = x
 
 -- a refusal of a stream that can be moved
-module _ (s : Sides) (draws left_draws S G : List ℕ) (old new : Outside) (e : TinkError) (t : Told old S G) (n : HasNoFault old new) (c : CanRewrap s draws S) where
+module _ (s : Sides) (draws left_draws S G : List ℕ) (old new : Outside) (e : TinkError) (t : AreKnown old S G) (n : HasNoFault old new) (c : CanRewrap s draws S) where
   loads_not : (kind : Kind) → IsUnloaded s kind draws left_draws old new → ⊥
   loads_not kind x = elim x.cause [ inl e ↦ (let f = c.from_loads in cc) | inr e ↦ (let g = e.cause in let f = c.to_loads in cc) ]
 

@@ -6,7 +6,7 @@ use Rattle.tink_io.specs.declared.error.Kind.TheVariants.{OutOfMemory, ReadFault
 use Rattle.tink_io.specs.declared.error.TinkError.{TinkError}
 use Rattle.stream_model.specs.Key.{StreamKey, first_room, front, segment_at}
 use Rattle.stream_model.specs.Opening.{OpeningKey, opening_key}
-use Rattle.stream_model.specs.Sealing.{prefix_of, salt_of}
+use Rattle.stream_model.specs.Sealing.{nonce_prefix_of, salt_of}
 use Rattle.tink_sets.specs.declared.typed_set.TypedPrimitiveSet.{TypedPrimitiveSet}
 use Rattle.tink_streaming_io.specs.declared.writing.Mode.{Mode}
 use Rattle.tink_streaming_keys.specs.declared.stream_kind.StreamKind.{StreamKind}
@@ -50,7 +50,7 @@ module _ (k : StreamKey) (aad draws left_draws bytes : List ℕ) (seg : ℕ → 
   salt = salt_of k draws
 
   abbrev prefix : List ℕ
-  prefix = prefix_of k draws
+  prefix = nonce_prefix_of k draws
 
   -- is of the key
   made_under : MakeTheSame (bytes_by bytes seg a b) (bytes_under k aad draws)

@@ -8,7 +8,7 @@ use Rattle.tink_io.specs.declared.error.TinkError.{TinkError}
 use Rattle.stream_model.specs.Cut.{chunks, full_chunks, sealed, unmarked}
 use Rattle.stream_model.specs.Key.{StreamKey}
 use Rattle.stream_model.specs.Opening.{OpeningKey}
-use Rattle.stream_model.specs.Sealing.{stream, part, longest_part, chunk_count, salt_of, prefix_of}
+use Rattle.stream_model.specs.Sealing.{stream, part, longest_part, chunk_count, salt_of, nonce_prefix_of}
 use Rattle.tink_streaming_keys.specs.Rooms.{HasRoomForEach}
 use Rattle.tink_streaming_keys.specs.declared.starting.Trial.{Trial}
 use Rattle.tink_streaming_io.specs.Writing.{WriterMoment, CloseMeans, CloseRefused}
@@ -40,9 +40,9 @@ bytes_by front seg first room = record {
 -- under a key, with the first draws as salt and prefix
 abbrev pub bytes_under : StreamKey → List ℕ → List ℕ → NewBytes
 bytes_under k aad draws = record {
-  whole = stream k aad (salt_of k draws) (prefix_of k draws);
-  part = part k aad (salt_of k draws) (prefix_of k draws);
-  longest = longest_part k aad (salt_of k draws) (prefix_of k draws);
+  whole = stream k aad (salt_of k draws) (nonce_prefix_of k draws);
+  part = part k aad (salt_of k draws) (nonce_prefix_of k draws);
+  longest = longest_part k aad (salt_of k draws) (nonce_prefix_of k draws);
   count = chunk_count k;
 }
 

@@ -17,7 +17,7 @@ use Rattle.stream_model.specs.Agree.{joined}
 use Rattle.stream_model.specs.Cut.{full_chunks, unmarked}
 use Rattle.stream_model.specs.Key.{StreamKey, first_room, front, keys_of, room, segment_at}
 use Rattle.stream_model.specs.Opening.{OpeningKey, IsChosen, chunks_of}
-use Rattle.stream_model.specs.Sealing.{stream, part, longest_part, unmarked_under, salt_of, prefix_of}
+use Rattle.stream_model.specs.Sealing.{stream, part, longest_part, unmarked_under, salt_of, nonce_prefix_of}
 use Rattle.stream_model.proofs.CutFacts.{unmarked-append}
 use Rattle.stream_model.proofs.KeyFacts.{CanOpen as Lawful}
 use Rattle.tink_io.specs.Gathering.{IsCutShort, OnlyGrows}
@@ -225,7 +225,7 @@ module _ (k : StreamKey) (aad draws left_draws : List ℕ) (old new : Outside) (
   salt = salt_of k draws
 
   abbrev prefix : List ℕ
-  prefix = prefix_of k draws
+  prefix = nonce_prefix_of k draws
 
   way_kept : Keeps told new.got → faults ≤ new.write_faults → (answer : Result Report TinkError) → IsUnderWay k aad draws left_draws old sealed_mid answer → IsUnderWay k aad draws left_draws old new answer
   way_kept kept later answer r = record {

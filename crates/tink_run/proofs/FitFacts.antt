@@ -26,8 +26,8 @@ use Rattle.wire_format.specs.Values.{fit_bodies, fits_body, fits_enum, fits_numb
 use Rattle.wire_format.specs.Writing.{field, spelling, varint, varint_within}
 use Rattle.wire_format.proofs.WritingLaws.{spelling_append, spelling_none}
 use Rattle.keyset_model.specs.Adding.{added, added_by_data, added_by_id, drawn_id, fresh_id, is_taken, keyset_reply, new_key}
-use Rattle.keyset_model.specs.Commands as commands
-use Rattle.keyset_model.specs.Commands.{Command, Maker, Managed, after, after_all, edit, keyset_after}
+use Rattle.keyset_model.specs.Operations as commands
+use Rattle.keyset_model.specs.Operations.{Operation, Maker, Managed, after, after_all, edit, keyset_after}
 use Rattle.keyset_model.specs.Edits.{as_destroyed, is_known_status, is_live, status_of, with_status}
 use Rattle.keyset_model.specs.Keys.{has_id}
 use Rattle.keyset_model.proofs.EditLaws.{all_first, all_more, all_without, both, joined}
@@ -68,7 +68,7 @@ is_drawn keys (suc takes) draws h =
           All-drop (λ b. b < 256) 4 draws h,
         )
 
-abbrev Adds : Command → Type 0
+abbrev Adds : Operation → Type 0
 Adds (commands.Add _) = ⊤
 Adds (commands.Rotate _) = ⊤
 Adds (commands.Enable _) = ⊥
@@ -228,7 +228,7 @@ changed_fits ks new test id change known each fit h =
     λ k q fits. each k (known k.status (subst (λ s. test s ≡ true) (sym q) h.2)) fits in
     subst IsFit (sym h.3) (fit.0, all_first (fits_body key) change h.0 one id ks.key h.1 fit.1)
 
-becomes_fit : (makes : Maker) (ks new : Keyset) (c : Command) → Becomes makes ks c new → (Adds c → ⊥) → IsFit ks
+becomes_fit : (makes : Maker) (ks new : Keyset) (c : Operation) → Becomes makes ks c new → (Adds c → ⊥) → IsFit ks
     → IsFit new
 becomes_fit makes ks new (commands.Add kt) h not fit = absurd (not tt)
 becomes_fit makes ks new (commands.Rotate kt) h not fit = absurd (not tt)
@@ -275,13 +275,13 @@ module _ (makes : Maker) (gives : GivesFitting makes) where
   adding ks kt as_primary draws bytes fit =
       by_data ks kt as_primary draws bytes fit (makes kt draws).0 (makes kt draws).1 refl (gives.left kt draws bytes)
 
-  editing : (ks : Keyset) (c : Command) (draws : List ℕ) → (Adds c → ⊥) → IsFit ks
+  editing : (ks : Keyset) (c : Operation) (draws : List ℕ) → (Adds c → ⊥) → IsFit ks
       → IsFit (keyset_after ks (edit makes ks c draws).0)
   editing ks c draws not fit =
       ⊎_elim (λ same. subst IsFit (sym same) fit) (λ becomes. becomes_fit makes ks _ c becomes not fit)
       (step makes ks c draws)
 
-  one : (ks : Keyset) (c : Command) (draws : List ℕ) → AreByteValues draws → IsFit ks → GoesOn ks (edit makes ks c draws)
+  one : (ks : Keyset) (c : Operation) (draws : List ℕ) → AreByteValues draws → IsFit ks → GoesOn ks (edit makes ks c draws)
   one ks (commands.Add kt) draws bytes fit = adding ks kt false draws bytes fit
   one ks (commands.Rotate kt) draws bytes fit = adding ks kt true draws bytes fit
   one ks (commands.Enable id) draws bytes fit = (editing ks (commands.Enable id) draws (λ h. h) fit, bytes)
@@ -290,7 +290,7 @@ module _ (makes : Maker) (gives : GivesFitting makes) where
   one ks (commands.Delete id) draws bytes fit = (editing ks (commands.Delete id) draws (λ h. h) fit, bytes)
   one ks (commands.SetPrimary id) draws bytes fit = (editing ks (commands.SetPrimary id) draws (λ h. h) fit, bytes)
 
-  all : (m : Managed) (cs : List Command) → AreByteValues m.draws → IsFit m.keyset → IsFit (after_all makes m cs).keyset
+  all : (m : Managed) (cs : List Operation) → AreByteValues m.draws → IsFit m.keyset → IsFit (after_all makes m cs).keyset
   all m [] bytes fit = fit
   all m (c ∷ cs) bytes fit = let next = one m.keyset c m.draws bytes fit in all (after makes m c) cs next.1 next.0
 

@@ -2,7 +2,7 @@
 use Rattle.std.proofs.Common.{◌≡◌, inl, inr, ◌∙◌, ℕ, List, Bool, true, false, cond, refl, ap}
 use Rattle.std.specs.declared.option.Option.{Option}
 use Rattle.std.specs.Prelude.{Ok, Err, Some, None}
-use Rattle.tink_io.specs.Told.{Answers, or_refused}
+use Rattle.tink_io.specs.Answering.{Answers, or_refused}
 use Rattle.tink_io.specs.declared.error.Kind.TheVariants.{BadKeyset, InvalidKeyset}
 use Rattle.tink_io.specs.declared.error.TinkError.{TinkError}
 use Rattle.tink_proto.specs.declared.messages.keys.Keyset.{Keyset}

@@ -21,7 +21,7 @@ use Rattle.loading_model.specs.Loading.{Loaded, LoadedKey, AreUsable, opening_ke
 use Rattle.tink_run.specs.AllKeys.{load}
 use Rattle.tink_run.proofs.LoadedFacts.{loaded_usable}
 use Rattle.tink_run.specs.declared.report.Report.{Report}
-use Rattle.tink_io.specs.Outside.{Outside, IsUntouched, HasNoFault, Told}
+use Rattle.tink_io.specs.Outside.{Outside, IsUntouched, HasNoFault, AreKnown}
 use Rattle.tink_run.specs.OpenAnswers.{OpensLoaded, OpeningRefused, OpenMeans, OpenRefused, IsOfChosen, AgreesUntil, Lead, AreTextsBy}
 use Rattle.tink_run.specs.Run.{IsWholeText, IsOfAgreeing, CanOpen, IsOkOrWant}
 use Rattle.tink_io.proofs.OutsideFacts.{told_appended, told_if}
@@ -40,7 +40,7 @@ pub chosen_lawful : (keyset aad S : List ℕ) (l : Loaded) (k : OpeningKey) → 
 chosen_lawful keyset aad S l k e h = chosen_of aad l.keys S k (loaded_usable keyset l e).0 h
 
 -- the whole known stream was opened
-pub open_succeeds : (keyset aad S G : List ℕ) (old new : Outside) (report : Report) → OpensLoaded keyset aad old new (Ok report) → Told old S G → IsWholeText keyset aad S G new report
+pub open_succeeds : (keyset aad S G : List ℕ) (old new : Outside) (report : Report) → OpensLoaded keyset aad old new (Ok report) → AreKnown old S G → IsWholeText keyset aad S G new report
 open_succeeds keyset aad S G old new report o t =
     let stream = told_if (λ X. IsOfChosen (opening_keys aad o.loaded) X o.means.texts) old.left S t.left o.means.stream in
     let told = told_if (λ X. IsSome new.left) old.left S t.left o.means.stays_told in
@@ -153,7 +153,7 @@ untouched_agreeing : (keyset aad S : List ℕ) (old new : Outside) → IsUntouch
 untouched_agreeing keyset aad S old new u = kept_agreeing keyset aad S old new (subst (λ (m : Outside). Keeps old.got m.got) (sym u) (Keeps-refl old.got))
 
 -- whatever an open answers, it has written only texts that agree
-pub stream_agreeing : (keyset aad S G : List ℕ) (l : Loaded) (old new : Outside) (kind : Kind) → load keyset ≡ Ok l → Told old S G → OpeningRefused (opening_keys aad l) old new kind → IsOfAgreeing keyset aad S old new
+pub stream_agreeing : (keyset aad S G : List ℕ) (l : Loaded) (old new : Outside) (kind : Kind) → load keyset ≡ Ok l → AreKnown old S G → OpeningRefused (opening_keys aad l) old new kind → IsOfAgreeing keyset aad S old new
 stream_agreeing keyset aad S G l old new NoMatchingKey e t r = kept_agreeing keyset aad S old new r.written
 stream_agreeing keyset aad S G l old new (Truncated n) e t r =
     let a = told_if (λ X. AgreesUntil (opening_keys aad l) X r.texts _) old.left S t.left r.stream in
@@ -168,7 +168,7 @@ stream_agreeing keyset aad S G l old new ReadFault e t r = written_lead keyset a
 stream_agreeing keyset aad S G l old new WriteFault e t r = written_lead keyset aad S l r.0.texts old new e (told_if (λ X. Lead (opening_keys aad l) X r.0.texts) old.left S t.left r.0.lead) r.0.written
 stream_agreeing keyset aad S G l old new _ e t r = absurd r
 
-opened_agreeing : (keyset aad S G : List ℕ) (old new : Outside) (report : Report) → Told old S G → OpensLoaded keyset aad old new (Ok report) → IsOfAgreeing keyset aad S old new
+opened_agreeing : (keyset aad S G : List ℕ) (old new : Outside) (report : Report) → AreKnown old S G → OpensLoaded keyset aad old new (Ok report) → IsOfAgreeing keyset aad S old new
 opened_agreeing keyset aad S G old new report t o =
     let w = open_succeeds keyset aad S G old new report o t in
     let law = chosen_lawful keyset aad S w.loaded w.key w.loads w.chosen in
@@ -183,7 +183,7 @@ opened_agreeing keyset aad S G old new report t o =
     stream_leads keys S k [] law c s = tt
     stream_leads keys S k (t ∷ ts) law c s = (k, c, (stream_agrees k S (t ∷ ts) law s).0)
 
-pub open_agreeing : (keyset aad draws left_draws S G : List ℕ) (old new : Outside) (answer : Result Report TinkError) → Told old S G → OpenMeans keyset aad draws left_draws old new answer → IsOfAgreeing keyset aad S old new
+pub open_agreeing : (keyset aad draws left_draws S G : List ℕ) (old new : Outside) (answer : Result Report TinkError) → AreKnown old S G → OpenMeans keyset aad draws left_draws old new answer → IsOfAgreeing keyset aad S old new
 open_agreeing keyset aad draws left_draws S G old new (Ok report) t m = opened_agreeing keyset aad S G old new report t m
 open_agreeing keyset aad draws left_draws S G old new (Err e) t m = go e.kind refl m
   where
@@ -244,7 +244,7 @@ agreed_all keyset aad S l ts P w a =
     let key : w.key ≡ a.key = cc in
     texts_left a.key S w.texts ts (subst Lawful key w.lawful) (subst (λ (k : OpeningKey). IsStream k S w.texts) key w.stream) a.agreed
 
-pub stream_complete : (keyset aad S G : List ℕ) (l : Loaded) (old new : Outside) (kind : Kind) → load keyset ≡ Ok l → Told old S G → HasNoFault old new → CanOpen keyset aad S → OpeningRefused (opening_keys aad l) old new kind → ⊥
+pub stream_complete : (keyset aad S G : List ℕ) (l : Loaded) (old new : Outside) (kind : Kind) → load keyset ≡ Ok l → AreKnown old S G → HasNoFault old new → CanOpen keyset aad S → OpeningRefused (opening_keys aad l) old new kind → ⊥
 stream_complete keyset aad S G l old new NoMatchingKey e t n c r =
     let w = whole_of keyset aad S l e c in
     let none = told_if (λ X. IsChosen (opening_keys aad l) X None) old.left S t.left r.none in
@@ -268,7 +268,7 @@ stream_complete keyset aad S G l old new WriteFault e t n c r = n.writes r.1
 stream_complete keyset aad S G l old new _ e t n c r = r
 
 -- an open that can succeed does, or there is no memory
-pub open_complete : (keyset aad draws left_draws S G : List ℕ) (old new : Outside) (answer : Result Report TinkError) → OpenMeans keyset aad draws left_draws old new answer → Told old S G → HasNoFault old new → CanOpen keyset aad S → IsOkOrWant answer
+pub open_complete : (keyset aad draws left_draws S G : List ℕ) (old new : Outside) (answer : Result Report TinkError) → OpenMeans keyset aad draws left_draws old new answer → AreKnown old S G → HasNoFault old new → CanOpen keyset aad S → IsOkOrWant answer
 open_complete keyset aad draws left_draws S G old new (Ok report) m t n c = tt
 open_complete keyset aad draws left_draws S G old new (Err e) m t n c = go e.kind refl m
   where

@@ -5,7 +5,7 @@ use Rattle.tink_proto.specs.declared.messages.keys.Keyset.{Keyset}
 use Rattle.tink_proto.specs.Messages.{keyset}
 use Rattle.wire_format.specs.Message.{encoded}
 use Rattle.wire_format.proofs.ReadingLaws.{written_again}
-use Rattle.keyset_model.specs.Commands.{after_all}
+use Rattle.keyset_model.specs.Operations.{after_all}
 use Rattle.stream_model.specs.Agree.{joined}
 use Rattle.stream_model.specs.Opening.{IsStream}
 use Rattle.stream_model.proofs.OpeningFacts.{IsChosen-unique}

@@ -8,24 +8,24 @@ use Rattle.tink_io.specs.declared.error.Kind.TheVariants.{OutOfMemory, ReadFault
 use Rattle.tink_io.specs.declared.error.TinkError.{TinkError}
 use Rattle.stream_model.specs.Key.{StreamKey, IsUsable, first_room, room, keys_of}
 use Rattle.tink_run.proofs.LoadedFacts.{loaded_usable}
-use Rattle.stream_model.specs.Sealing.{stream, chunk_count, drawn, salt_of, prefix_of}
+use Rattle.stream_model.specs.Sealing.{stream, chunk_count, drawn, salt_of, nonce_prefix_of}
 use Rattle.stream_model.proofs.SealingFacts.{chunks_more}
 use Rattle.loading_model.specs.Loading.{Loaded}
 use Rattle.tink_run.specs.AllKeys.{load}
 use Rattle.tink_run.specs.declared.report.Report.{Report}
-use Rattle.tink_io.specs.Outside.{Outside, HasNoFault, Told}
+use Rattle.tink_io.specs.Outside.{Outside, HasNoFault, AreKnown}
 use Rattle.tink_run.specs.SealAnswers.{SealsLoaded, SealingRefused, SealMeans, SealRefused}
 use Rattle.tink_run.specs.Run.{IsWholeStream, IsOkOrWant, CanSeal}
 
-pub seal_succeeds : (keyset aad draws left_draws T G : List ℕ) (old new : Outside) (report : Report) → SealsLoaded keyset aad draws left_draws old new (Ok report) → Told old T G
+pub seal_succeeds : (keyset aad draws left_draws T G : List ℕ) (old new : Outside) (report : Report) → SealsLoaded keyset aad draws left_draws old new (Ok report) → AreKnown old T G
     → IsWholeStream keyset aad draws left_draws T G new report
 seal_succeeds keyset aad draws left_draws T G old new report s t =
     let whole = told_whole old.left new.left T s.means.text t.left s.means.read s.means.at_end in
     record {
       loaded = s.loaded;
       loads = s.loads;
-      written = told_appended old.got new.got G (stream s.loaded.primary aad (salt_of s.loaded.primary draws) (prefix_of s.loaded.primary draws) T) t.got
-          (subst (λ (x : List ℕ). Appends old.got new.got (stream s.loaded.primary aad (salt_of s.loaded.primary draws) (prefix_of s.loaded.primary draws) x)) (sym whole.0) s.means.written);
+      written = told_appended old.got new.got G (stream s.loaded.primary aad (salt_of s.loaded.primary draws) (nonce_prefix_of s.loaded.primary draws) T) t.got
+          (subst (λ (x : List ℕ). Appends old.got new.got (stream s.loaded.primary aad (salt_of s.loaded.primary draws) (nonce_prefix_of s.loaded.primary draws) x)) (sym whole.0) s.means.written);
       at_end = whole.1;
       rest = s.rest;
       segments = s.means.segments ∙ ap (chunk_count s.loaded.primary) (sym whole.0);
@@ -36,13 +36,13 @@ room_some : (k : StreamKey) → IsUsable k → (0 < first_room k) × (0 < room k
 room_some k u = (omega (arith, u.room), omega (arith, u.room))
 
 -- a sealing that can succeed is refused for no other cause than a fault
-pub sealing_complete : (keyset aad draws left_draws T G : List ℕ) (old new : Outside) (e : TinkError) (kind : Kind) → e.kind ≡ kind → SealsLoaded keyset aad draws left_draws old new (Err e) → Told old T G → HasNoFault old new → CanSeal keyset aad draws T → ⊥
-sealing_complete keyset aad draws left_draws T G old new e kind same s t n c = go kind (subst (SealingRefused s.loaded.primary aad (salt_of s.loaded.primary draws) (prefix_of s.loaded.primary draws) old new) same s.means)
+pub sealing_complete : (keyset aad draws left_draws T G : List ℕ) (old new : Outside) (e : TinkError) (kind : Kind) → e.kind ≡ kind → SealsLoaded keyset aad draws left_draws old new (Err e) → AreKnown old T G → HasNoFault old new → CanSeal keyset aad draws T → ⊥
+sealing_complete keyset aad draws left_draws T G old new e kind same s t n c = go kind (subst (SealingRefused s.loaded.primary aad (salt_of s.loaded.primary draws) (nonce_prefix_of s.loaded.primary draws) old new) same s.means)
   where
     loaded_same : s.loaded ≡ c.loaded
     loaded_same = let p = s.loads in let q = c.loads in cc
 
-    go : (kind : Kind) → SealingRefused s.loaded.primary aad (salt_of s.loaded.primary draws) (prefix_of s.loaded.primary draws) old new kind → ⊥
+    go : (kind : Kind) → SealingRefused s.loaded.primary aad (salt_of s.loaded.primary draws) (nonce_prefix_of s.loaded.primary draws) old new kind → ⊥
     go ReadFault r = n.reads r.rose
     go WriteFault r = n.writes r.rose
     go TooManySegments r =
@@ -54,7 +54,7 @@ sealing_complete keyset aad draws left_draws T G old new e kind same s t n c = g
     go _ r = r
 
 -- a seal that can succeed does, or there is no memory
-pub seal_complete : (keyset aad draws left_draws T G : List ℕ) (old new : Outside) (answer : Result Report TinkError) → SealMeans keyset aad draws left_draws old new answer → Told old T G → HasNoFault old new → CanSeal keyset aad draws T → IsOkOrWant answer
+pub seal_complete : (keyset aad draws left_draws T G : List ℕ) (old new : Outside) (answer : Result Report TinkError) → SealMeans keyset aad draws left_draws old new answer → AreKnown old T G → HasNoFault old new → CanSeal keyset aad draws T → IsOkOrWant answer
 seal_complete keyset aad draws left_draws T G old new (Ok report) m t n c = tt
 seal_complete keyset aad draws left_draws T G old new (Err e) m t n c = go e.kind refl m
   where

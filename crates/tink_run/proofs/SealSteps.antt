@@ -16,7 +16,7 @@ use Rattle.stream_model.specs.Key.{StreamKey, derived_bytes_of, first_room, fron
 use Rattle.tink_streaming_keys.proofs.DerivedKeys.{derives_nothing}
 use Rattle.tink_streaming_keys.specs.Encrypting.{DrewHeader, IsNewStream, NewWriterRefused}
 use Rattle.tink_streaming_keys.specs.StreamingKeys.{deriving_hash}
-use Rattle.stream_model.specs.Sealing.{stream, part, longest_part, sealed_under, unmarked_under, salt_of, prefix_of}
+use Rattle.stream_model.specs.Sealing.{stream, part, longest_part, sealed_under, unmarked_under, salt_of, nonce_prefix_of}
 use Rattle.stream_model.proofs.SealingFacts.{length-chunks}
 use Rattle.tink_streaming_io.specs.Writing.{WriterMoment, Wrote, WrotePrefixOf, WroteAll, ClosedBy, ClosedShort, CloseMeans, CloseRefused}
 use Rattle.tink_streaming_io.proofs.WritingFacts.{IsFresh, fresh_filled, closed_whole, closed_prefix, stops_prefix}
@@ -193,7 +193,7 @@ pub under_way : (k : StreamKey) (aad draws left_draws : List ℕ) (old new : Out
 under_way k aad draws left_draws old new (Ok report) w = w
 under_way k aad draws left_draws old new (Err e) w = go e.kind w.means
   where
-    go : (kind : Kind) → SealingRefused k aad (salt_of k draws) (prefix_of k draws) old new kind → SealsUnderRefused k aad draws left_draws old new e kind
+    go : (kind : Kind) → SealingRefused k aad (salt_of k draws) (nonce_prefix_of k draws) old new kind → SealsUnderRefused k aad draws left_draws old new e kind
     go ReadFault m = w
     go WriteFault m = w
     go TooManySegments m = w
@@ -231,7 +231,7 @@ module _ {W : Type 0} (got : W → Option (List ℕ)) (faults : W → ℕ) (k : 
     enough = r.drew.enough;
     rest = r.drew.rest;
     derives = λ none. let some = r.keys_are in cc;
-    means = front_failed k aad (salt_of k draws) (prefix_of k draws) r.keys r.keys_are before after refl r.begun r.rose;
+    means = front_failed k aad (salt_of k draws) (nonce_prefix_of k draws) r.keys r.keys_are before after refl r.begun r.rose;
   }
   refusal _ r = absurd r
 
@@ -274,7 +274,7 @@ module _ (k : StreamKey) (aad draws left_draws : List ℕ) (got : Option (List �
   fresh = record { mode = begun.is_open; number = begun.number; held = begun.held }
 
   -- what its sealing answers is what the seal answers
-  begun_answer : (old new : Outside) (answer : Result Report TinkError) → SealingMeans k aad (salt_of k draws) (prefix_of k draws) old new answer → SealsUnder k aad draws left_draws old new answer
+  begun_answer : (old new : Outside) (answer : Result Report TinkError) → SealingMeans k aad (salt_of k draws) (nonce_prefix_of k draws) old new answer → SealsUnder k aad draws left_draws old new answer
   begun_answer old new answer means = under_way k aad draws left_draws old new answer (record { enough = begun.drew.enough; rest = begun.drew.rest; derives = λ none. let some = begun.keys_are in cc; means = means })
 
   -- pouring was refused
@@ -282,14 +282,14 @@ module _ (k : StreamKey) (aad draws left_draws : List ℕ) (got : Option (List �
       → SealsUnder k aad draws left_draws (record { left = left; read_faults = reads; got = got; write_faults = writes }) (record { left = after; read_faults = again; got = n.got; write_faults = n.faults }) (Err e)
   not_poured left after reads again writes n e later r =
       begun_answer _ _ (Err e)
-      (pour_refusal k aad (salt_of k draws) (prefix_of k draws) begun.keys begun.keys_are seg a b left after got reads again writes m n e.kind begun.segments begun.first_is begun.later_is fresh begun.written later r)
+      (pour_refusal k aad (salt_of k draws) (nonce_prefix_of k draws) begun.keys begun.keys_are seg a b left after got reads again writes m n e.kind begun.segments begun.first_is begun.later_is fresh begun.written later r)
 
   -- all was poured, and the writer was closed or not
   module _ (left after : Option (List ℕ)) (reads again writes : ℕ) (n o : WriterMoment) (bytes : ℕ) (poured : IsPoured seg a b left after m n bytes) (end : IsAtEnd after) (later : writes ≤ n.faults) where
-    abbrev answers : ((kind : Kind) → CloseRefused seg n o kind → SealingRefused k aad (salt_of k draws) (prefix_of k draws) (record { left = left; read_faults = reads; got = got; write_faults = writes }) (record { left = after; read_faults = again; got = o.got; write_faults = o.faults }) kind)
+    abbrev answers : ((kind : Kind) → CloseRefused seg n o kind → SealingRefused k aad (salt_of k draws) (nonce_prefix_of k draws) (record { left = left; read_faults = reads; got = got; write_faults = writes }) (record { left = after; read_faults = again; got = o.got; write_faults = o.faults }) kind)
         × (CloseMeans seg n o (Ok tt) → (report : Report) → report.segments ≡ o.number → report.bytes ≡ bytes
-        → IsSealedWhole k aad (salt_of k draws) (prefix_of k draws) (record { left = left; read_faults = reads; got = got; write_faults = writes }) (record { left = after; read_faults = again; got = o.got; write_faults = o.faults }) report)
-    answers = close_answer k aad (salt_of k draws) (prefix_of k draws) begun.keys begun.keys_are seg a b left after got reads again writes m n o bytes begun.segments begun.first_is begun.later_is fresh begun.written poured end later
+        → IsSealedWhole k aad (salt_of k draws) (nonce_prefix_of k draws) (record { left = left; read_faults = reads; got = got; write_faults = writes }) (record { left = after; read_faults = again; got = o.got; write_faults = o.faults }) report)
+    answers = close_answer k aad (salt_of k draws) (nonce_prefix_of k draws) begun.keys begun.keys_are seg a b left after got reads again writes m n o bytes begun.segments begun.first_is begun.later_is fresh begun.written poured end later
 
     pub not_closed : (e : TinkError) → CloseRefused seg n o e.kind
         → SealsUnder k aad draws left_draws (record { left = left; read_faults = reads; got = got; write_faults = writes }) (record { left = after; read_faults = again; got = o.got; write_faults = o.faults }) (Err e)

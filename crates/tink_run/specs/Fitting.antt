@@ -5,7 +5,7 @@ use Rattle.tink_proto.specs.declared.messages.keys.KeyTemplate.{KeyTemplate}
 use Rattle.tink_proto.specs.Messages.{key, keyset}
 use Rattle.wire_format.specs.Values.{fits_body}
 use Rattle.keyset_model.specs.Adding.{new_key}
-use Rattle.keyset_model.specs.Commands.{Maker, Command, Managed, after_all}
+use Rattle.keyset_model.specs.Operations.{Maker, Operation, Managed, after_all}
 
 abbrev pub AreByteValues : List ℕ → Type 0
 AreByteValues draws = All (λ b. b < 256) draws
@@ -19,5 +19,5 @@ pub record GivesFitting (makes : Maker) : Type 0 where
 -- a keyset that fits the wire format does so after any commands
 abbrev pub KeepsFit : Type 0
 KeepsFit =
-    (makes : Maker) → GivesFitting makes → (m : Managed) (commands : List Command) → AreByteValues m.draws
+    (makes : Maker) → GivesFitting makes → (m : Managed) (commands : List Operation) → AreByteValues m.draws
     → IsTrue (keyset.fits m.keyset) → IsTrue (keyset.fits (after_all makes m commands).keyset)

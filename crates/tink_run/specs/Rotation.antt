@@ -3,7 +3,7 @@ use Rattle.std.specs.Prelude.{◌≡◌, ◌↔◌, ◌++◌, ℕ, List, All, So
 use Rattle.tink_proto.specs.declared.messages.keys.Keyset.{Keyset}
 use Rattle.tink_proto.specs.Messages.{keyset}
 use Rattle.wire_format.specs.Message.{encoded}
-use Rattle.keyset_model.specs.Commands.{Maker, Command, Managed, after_all}
+use Rattle.keyset_model.specs.Operations.{Maker, Operation, Managed, after_all}
 use Rattle.keyset_model.specs.Spared.{Spares}
 use Rattle.stream_model.specs.Key.{StreamKey}
 use Rattle.loading_model.specs.Loading.{Loaded, load_keyset}
@@ -33,7 +33,7 @@ pub record OpensAs (ks : Keyset) (aad S : List ℕ) : Type 0 where
 -- so it is of the keyset that any commands make, where it fits the wire format
 abbrev pub RunOpensEdited : Type 0
 RunOpensEdited =
-    (makes : Maker) (m : Managed) (commands : List Command) (aad S : List ℕ)
+    (makes : Maker) (m : Managed) (commands : List Operation) (aad S : List ℕ)
     → IsTrue (keyset.fits (after_all makes m commands).keyset)
     → OpensAs (after_all makes m commands).keyset aad S
 
@@ -44,7 +44,7 @@ pub record RunsTo (ks : Keyset) (aad S text : List ℕ) : Type 0 where
       → IsWholeText (encoded keyset.write ks) aad S G new report → new.got ≡ Some (G ++ text)
 
 -- the keyset that the commands make fits the wire format, and loads
-pub record IsUsed (makes : Maker) (m : Managed) (commands : List Command) : Type 0 where
+pub record IsUsed (makes : Maker) (m : Managed) (commands : List Operation) : Type 0 where
   pub fits : IsTrue (keyset.fits (after_all makes m commands).keyset)
   pub loaded : Loaded
   pub loads : load_keyset rows (after_all makes m commands).keyset ≡ Ok loaded
@@ -53,20 +53,20 @@ pub record IsUsed (makes : Maker) (m : Managed) (commands : List Command) : Type
 -- primary one
 abbrev pub RunOpensAfterAdding : Type 0
 RunOpensAfterAdding =
-    (makes : Maker) (m : Managed) (commands : List Command) (aad S text : List ℕ)
+    (makes : Maker) (m : Managed) (commands : List Operation) (aad S text : List ℕ)
     → All LeavesKeys commands → IsUsed makes m commands
     → Opens m.keyset aad S text → RunsTo (after_all makes m commands).keyset aad S text
 
 -- or where they leave the place of the key that is chosen for the stream
 abbrev pub RunOpensAfterAll : Type 0
 RunOpensAfterAll =
-    (makes : Maker) (m : Managed) (commands : List Command) (aad S text : List ℕ) (place id : ℕ) (key : StreamKey)
+    (makes : Maker) (m : Managed) (commands : List Operation) (aad S text : List ℕ) (place id : ℕ) (key : StreamKey)
     → IsChosenAt rows aad S m.keyset.key place id key → AllLeavePlace makes m place commands → IsUsed makes m commands
     → Opens m.keyset aad S text → RunsTo (after_all makes m commands).keyset aad S text
 
 -- or enable none, and disable, destroy or delete no key of its id
 abbrev pub RunOpensById : Type 0
 RunOpensById =
-    (makes : Maker) (m : Managed) (commands : List Command) (aad S text : List ℕ) (place id : ℕ) (key : StreamKey)
+    (makes : Maker) (m : Managed) (commands : List Operation) (aad S text : List ℕ) (place id : ℕ) (key : StreamKey)
     → IsChosenAt rows aad S m.keyset.key place id key → All (λ c. Spares id c × EnablesNone c) commands
     → IsUsed makes m commands → Opens m.keyset aad S text → RunsTo (after_all makes m commands).keyset aad S text

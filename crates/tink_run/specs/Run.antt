@@ -8,13 +8,13 @@ use Rattle.tink_io.specs.declared.error.TinkError.{TinkError}
 use Rattle.stream_model.specs.Agree.{joined}
 use Rattle.stream_model.specs.Key.{keys_of}
 use Rattle.stream_model.specs.Opening.{OpeningKey, IsAgreed, IsChosen, IsStream}
-use Rattle.stream_model.specs.Sealing.{stream, chunk_count, drawn, salt_of, prefix_of}
+use Rattle.stream_model.specs.Sealing.{stream, chunk_count, drawn, salt_of, nonce_prefix_of}
 use Rattle.loading_model.specs.Loading.{Loaded, opening_keys}
 use Rattle.tink_run.specs.AllKeys.{load}
 use Rattle.tink_run.specs.declared.report.Command.{Command}
 use Rattle.tink_run.specs.declared.report.Command.TheVariants.{Seal, Open}
 use Rattle.tink_run.specs.declared.report.Report.{Report}
-use Rattle.tink_io.specs.Outside.{Outside, HasNoFault, Told}
+use Rattle.tink_io.specs.Outside.{Outside, HasNoFault, AreKnown}
 use Rattle.tink_run.specs.SealAnswers.{SealMeans}
 use Rattle.tink_run.specs.OpenAnswers.{OpenMeans}
 
@@ -55,7 +55,7 @@ LeavesSinkItself (Err e) sink sink_after = WritesNothing e.kind → sink_after �
 pub record IsWholeStream (keyset aad draws left_draws T G : List ℕ) (new : Outside) (report : Report) : Type 0 where
   pub loaded : Loaded
   pub loads : load keyset ≡ Ok loaded
-  pub written : new.got ≡ Some (G ++ stream loaded.primary aad (salt_of loaded.primary draws) (prefix_of loaded.primary draws) T)
+  pub written : new.got ≡ Some (G ++ stream loaded.primary aad (salt_of loaded.primary draws) (nonce_prefix_of loaded.primary draws) T)
   pub at_end : new.left ≡ Some []
   pub rest : left_draws ≡ drop (drawn loaded.primary) draws
   pub segments : report.segments ≡ chunk_count loaded.primary T
@@ -87,7 +87,7 @@ pub record IsOfAgreeing (keyset aad S : List ℕ) (old new : Outside) : Type 0 w
 -- an open of known bytes, whatever it answers
 abbrev pub OnlyAgreeing : Command → List ℕ → List ℕ → Outside → Outside → Type 0
 OnlyAgreeing Seal keyset aad old new = Unit {0}
-OnlyAgreeing Open keyset aad old new = (S G : List ℕ) → Told old S G → IsOfAgreeing keyset aad S old new
+OnlyAgreeing Open keyset aad old new = (S G : List ℕ) → AreKnown old S G → IsOfAgreeing keyset aad S old new
 
 abbrev pub IsOkOrWant : Result Report TinkError → Type 0
 IsOkOrWant (Ok report) = Unit {0}
@@ -116,4 +116,4 @@ CanSucceed Open keyset aad draws S = CanOpen keyset aad S
 
 -- where neither count rose and the command can succeed, it does, or there is no memory
 abbrev pub IsComplete : Command → List ℕ → List ℕ → List ℕ → Outside → Outside → Result Report TinkError → Type 0
-IsComplete command keyset aad draws old new answer = (T G : List ℕ) → Told old T G → HasNoFault old new → CanSucceed command keyset aad draws T → IsOkOrWant answer
+IsComplete command keyset aad draws old new answer = (T G : List ℕ) → AreKnown old T G → HasNoFault old new → CanSucceed command keyset aad draws T → IsOkOrWant answer

@@ -7,7 +7,7 @@ use Rattle.tink_io.specs.declared.error.Kind.{Kind}
 use Rattle.tink_io.specs.declared.error.Kind.TheVariants.{OutOfMemory, ReadFault, WriteFault, RandomFault, BadKeyset, InvalidKeyset, UnsupportedKeyType, InvalidKey, NoPrimary, WrongPrimitive, UnsupportedHash, TooManySegments}
 use Rattle.tink_io.specs.declared.error.TinkError.{TinkError}
 use Rattle.stream_model.specs.Key.{StreamKey, keys_of}
-use Rattle.stream_model.specs.Sealing.{stream, part, longest_part, chunk_count, drawn, salt_of, prefix_of}
+use Rattle.stream_model.specs.Sealing.{stream, part, longest_part, chunk_count, drawn, salt_of, nonce_prefix_of}
 use Rattle.loading_model.specs.Loading.{Loaded}
 use Rattle.tink_run.specs.AllKeys.{load}
 use Rattle.tink_run.specs.declared.report.Report.{Report}
@@ -62,7 +62,7 @@ pub record SealsLoaded (keyset aad draws left_draws : List ℕ) (old new : Outsi
   pub enough : drawn loaded.primary ≤ length draws
   pub rest : left_draws ≡ drop (drawn loaded.primary) draws
   pub derives : keys_of loaded.primary aad (salt_of loaded.primary draws) ≡ None → ⊥
-  pub means : SealingMeans loaded.primary aad (salt_of loaded.primary draws) (prefix_of loaded.primary draws) old new answer
+  pub means : SealingMeans loaded.primary aad (salt_of loaded.primary draws) (nonce_prefix_of loaded.primary draws) old new answer
 
 -- the keyset was refused: nothing was read, written or drawn
 pub record IsRefused (keyset : List ℕ) (kind : Kind) (draws left_draws : List ℕ) (old new : Outside) : Type 0 where

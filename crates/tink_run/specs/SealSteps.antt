@@ -4,7 +4,7 @@ use Rattle.tink_io.specs.declared.error.Kind.{Kind}
 use Rattle.tink_io.specs.declared.error.Kind.TheVariants.{OutOfMemory, ReadFault, WriteFault, RandomFault, UnknownHash, UnsupportedHash, TooManySegments}
 use Rattle.tink_io.specs.declared.error.TinkError.{TinkError}
 use Rattle.stream_model.specs.Key.{StreamKey, keys_of}
-use Rattle.stream_model.specs.Sealing.{drawn, salt_of, prefix_of}
+use Rattle.stream_model.specs.Sealing.{drawn, salt_of, nonce_prefix_of}
 use Rattle.tink_run.specs.declared.report.Report.{Report}
 use Rattle.tink_io.specs.Outside.{Outside, IsUntouched}
 use Rattle.tink_run.specs.SealAnswers.{SealingMeans, WantsMemory}
@@ -19,7 +19,7 @@ pub record IsUnderWay (k : StreamKey) (aad draws left_draws : List ℕ) (old new
   pub enough : drawn k ≤ length draws
   pub rest : left_draws ≡ drop (drawn k) draws
   pub derives : keys_of k aad (salt_of k draws) ≡ None → ⊥
-  pub means : SealingMeans k aad (salt_of k draws) (prefix_of k draws) old new answer
+  pub means : SealingMeans k aad (salt_of k draws) (nonce_prefix_of k draws) old new answer
 
 -- too few draws are left
 pub record HasFew (k : StreamKey) (draws left_draws : List ℕ) (old new : Outside) : Type 0 where

@@ -4,7 +4,7 @@ ghost use Rattle.stream_model.specs.Opening as opening;
 ghost use Rattle.tink_streaming_io.specs.declared.progress.Progress.TheVariants.{Running};
 ghost use Rattle.tink_streaming_keys.specs.Rooms.{HasRoomForEach};
 ghost use Rattle.tink_streaming_io.specs.Openers.{reader_memory, reader_moment, reader_rest, segment_map};
-ghost use Rattle.tink_io.specs.Outside.{FaultsStay, outside_of};
+ghost use Rattle.tink_io.specs.Outside.{FaultsStay, outside};
 ghost use Rattle.tink_streaming_aead.specs.Wrapped.{KeepsOrder, all_entries, keys_in};
 ghost use Rattle.tink_run.specs.OpenAnswers.{OpeningMeans};
 ghost use Rattle.tink_run.specs.OpenReads.{FirstReads, ReaderReads, ReadsWithin, room_under};
@@ -40,20 +40,20 @@ pub fn open<S: Source, K: Sink>(
     sink: &mut K,
 ) -> Result<Report, TinkError>
     ensures answer { OpensUnder (map (opening.opening_key aad.now) (keys_in (all_entries set.now.entries)))
-        (outside_of S.left S.faults K.got K.faults source.old sink.old)
-        (outside_of S.left S.faults K.got K.faults source.new sink.new)
+        (outside S.Source K.Sink source.old sink.old)
+        (outside S.Source K.Sink source.new sink.new)
         result }
     // How far the source was read by a refusal, and what was written before a fault.
     ensures read { ReadsWithin (room_under (map (opening.opening_key aad.now) (keys_in (all_entries set.now.entries))))
         (map (opening.opening_key aad.now) (keys_in (all_entries set.now.entries)))
-        (outside_of S.left S.faults K.got K.faults source.old sink.old)
-        (outside_of S.left S.faults K.got K.faults source.new sink.new)
+        (outside S.Source K.Sink source.old sink.old)
+        (outside S.Source K.Sink source.new sink.new)
         result }
     ensures order { KeepsOrder set.now.entries }
     ensures early { LeavesEnds result source.old source.new sink.old sink.new }
     ensures unwritten { LeavesSinkItself result sink.old sink.new }
-    ensures later { FaultsStay (outside_of S.left S.faults K.got K.faults source.old sink.old)
-        (outside_of S.left S.faults K.got K.faults source.new sink.new) }
+    ensures later { FaultsStay (outside S.Source K.Sink source.old sink.old)
+        (outside S.Source K.Sink source.new sink.new) }
     ensures source { S.same source.old source.new }
     ensures sink { K.same sink.old sink.new }
 {
@@ -80,14 +80,14 @@ fn open_under<S: Source, K: Sink, T: DerivesStreams>(
     requires room { HasRoomForEach T.key_of keys.now (vec_len trial.kept.buffer) (vec_capacity trial.opened)
         (vec_len trial.nonce) (vec_capacity trial.prefix) }
     ensures answer { OpeningMeans (map (λ k. opening.opening_key aad.now (T.key_of k)) keys.now)
-        (outside_of S.left S.faults K.got K.faults source.old sink.old)
-        (outside_of S.left S.faults K.got K.faults source.new sink.new) result
+        (outside S.Source K.Sink source.old sink.old)
+        (outside S.Source K.Sink source.new sink.new) result
         × ReadsWithin (vec_len trial.kept.buffer) (map (λ k. opening.opening_key aad.now (T.key_of k)) keys.now)
-        (outside_of S.left S.faults K.got K.faults source.old sink.old)
-        (outside_of S.left S.faults K.got K.faults source.new sink.new) result }
+        (outside S.Source K.Sink source.old sink.old)
+        (outside S.Source K.Sink source.new sink.new) result }
     ensures unwritten { LeavesSinkItself result sink.old sink.new }
-    ensures later { FaultsStay (outside_of S.left S.faults K.got K.faults source.old sink.old)
-        (outside_of S.left S.faults K.got K.faults source.new sink.new) }
+    ensures later { FaultsStay (outside S.Source K.Sink source.old sink.old)
+        (outside S.Source K.Sink source.new sink.new) }
     ensures source { S.same source.old source.new }
     ensures sink { K.same sink.old sink.new }
 {
@@ -110,22 +110,22 @@ fn open_stream<S: Source, K: Sink, D: SegmentDecrypter + Drop>(
     ensures answer { ReaderMeans (segment_map reader.old.opener) reader.old.opener.first reader.old.opener.size
         reader.old.opener.overhead
         (held_outside S.left S.faults K.got K.faults reader.old source.old sink.old)
-        (outside_of S.left S.faults K.got K.faults source.new sink.new)
+        (outside S.Source K.Sink source.new sink.new)
         result }
     ensures read { ReaderReads (vec_len reader.old.buffer) (segment_map reader.old.opener) reader.old.opener.first
         reader.old.opener.size (held_outside S.left S.faults K.got K.faults reader.old source.old sink.old)
-        (outside_of S.left S.faults K.got K.faults source.new sink.new)
+        (outside S.Source K.Sink source.new sink.new)
         result }
     ensures unwritten { LeavesSinkItself result sink.old sink.new }
-    ensures later { FaultsStay (outside_of S.left S.faults K.got K.faults source.old sink.old)
-        (outside_of S.left S.faults K.got K.faults source.new sink.new) }
+    ensures later { FaultsStay (outside S.Source K.Sink source.old sink.old)
+        (outside S.Source K.Sink source.new sink.new) }
     ensures source { S.same source.old source.new }
     ensures sink { K.same sink.old sink.new }
 {
     open_first(reader, source)?;
     let mut bytes: u64 = 0;
     loop {
-        let text = reader.opened();
+        let text = reader.plaintext();
         write_all(sink, text)?;
         bytes += text.len() as u64;
         match reader.progress() {

@@ -2,7 +2,7 @@ ghost use Rattle.std.specs.Prelude.{◌≡◌, ℕ, List, IfOk, Ok, is_some, tru
 ghost use Rattle.tink_run.specs.AllKeys.{load};
 ghost use Rattle.tink_run.specs.HeldKeys.{GivesLoaded};
 ghost use Rattle.tink_run.specs.OpenReads.{ReadsNoFurther};
-ghost use Rattle.tink_io.specs.Outside.{FaultsStay, outside_of, Told};
+ghost use Rattle.tink_io.specs.Outside.{FaultsStay, outside, AreKnown};
 ghost use Rattle.tink_run.specs.Run.{AnswerMeans, IsComplete, LeavesEnds, LeavesSinkItself, OnlyAgreeing, OkMeans};
 
 use crate::keys::primary_key;
@@ -44,32 +44,32 @@ pub fn run<S: Source, K: Sink>(
 ) -> Result<Report, TinkError>
     // Each answer has its cause, and says what stands after it.
     ensures answer { AnswerMeans command keyset.now aad.now draws.old draws.new
-        (outside_of S.left S.faults K.got K.faults source.old sink.old)
-        (outside_of S.left S.faults K.got K.faults source.new sink.new)
+        (outside S.Source K.Sink source.old sink.old)
+        (outside S.Source K.Sink source.new sink.new)
         result }
 
     // Known bytes: a seal has written the stream of its whole input; an open had as input a stream of the
     // chosen key, and has written its text.
     ensures ok { IfOk result (λ report. (T G : List ℕ)
-        → Told (outside_of S.left S.faults K.got K.faults source.old sink.old) T G
+        → AreKnown (outside S.Source K.Sink source.old sink.old) T G
         → OkMeans command keyset.now aad.now draws.old draws.new T G
-        (outside_of S.left S.faults K.got K.faults source.new sink.new) report) }
+        (outside S.Source K.Sink source.new sink.new) report) }
 
     // Known bytes: an open has only written a prefix of the texts that agree under the chosen key.
     ensures written { OnlyAgreeing command keyset.now aad.now
-        (outside_of S.left S.faults K.got K.faults source.old sink.old)
-        (outside_of S.left S.faults K.got K.faults source.new sink.new) }
+        (outside S.Source K.Sink source.old sink.old)
+        (outside S.Source K.Sink source.new sink.new) }
 
     // Known bytes: where neither end fails and the command can succeed, it does, or there is no memory.
     ensures succeeds { IsComplete command keyset.now aad.now draws.old
-        (outside_of S.left S.faults K.got K.faults source.old sink.old)
-        (outside_of S.left S.faults K.got K.faults source.new sink.new)
+        (outside S.Source K.Sink source.old sink.old)
+        (outside S.Source K.Sink source.new sink.new)
         result }
 
     // How far the source of an open was read by a refusal.
     ensures read { ReadsNoFurther command keyset.now aad.now
-        (outside_of S.left S.faults K.got K.faults source.old sink.old)
-        (outside_of S.left S.faults K.got K.faults source.new sink.new)
+        (outside S.Source K.Sink source.old sink.old)
+        (outside S.Source K.Sink source.new sink.new)
         result }
 
     // A refusal that comes before anything was read or written leaves the ends themselves as they were, and
@@ -78,8 +78,8 @@ pub fn run<S: Source, K: Sink>(
     ensures unwritten { LeavesSinkItself result sink.old sink.new }
 
     // Whatever the answer, no count of faults fell, and what calls keep of both ends is kept.
-    ensures stays { FaultsStay (outside_of S.left S.faults K.got K.faults source.old sink.old)
-        (outside_of S.left S.faults K.got K.faults source.new sink.new)
+    ensures stays { FaultsStay (outside S.Source K.Sink source.old sink.old)
+        (outside S.Source K.Sink source.new sink.new)
         × S.same source.old source.new × K.same sink.old sink.new }
 {
     answer(alloc, command, keyset, aad, draws, source, sink)
@@ -96,17 +96,17 @@ fn answer<S: Source, K: Sink>(
     sink: &mut K,
 ) -> Result<Report, TinkError>
     ensures answer { AnswerMeans command keyset.now aad.now draws.old draws.new
-        (outside_of S.left S.faults K.got K.faults source.old sink.old)
-        (outside_of S.left S.faults K.got K.faults source.new sink.new)
+        (outside S.Source K.Sink source.old sink.old)
+        (outside S.Source K.Sink source.new sink.new)
         result }
     ensures read { ReadsNoFurther command keyset.now aad.now
-        (outside_of S.left S.faults K.got K.faults source.old sink.old)
-        (outside_of S.left S.faults K.got K.faults source.new sink.new)
+        (outside S.Source K.Sink source.old sink.old)
+        (outside S.Source K.Sink source.new sink.new)
         result }
     ensures early { LeavesEnds result source.old source.new sink.old sink.new }
     ensures unwritten { LeavesSinkItself result sink.old sink.new }
-    ensures later { FaultsStay (outside_of S.left S.faults K.got K.faults source.old sink.old)
-        (outside_of S.left S.faults K.got K.faults source.new sink.new) }
+    ensures later { FaultsStay (outside S.Source K.Sink source.old sink.old)
+        (outside S.Source K.Sink source.new sink.new) }
     ensures source { S.same source.old source.new }
     ensures sink { K.same sink.old sink.new }
 {
@@ -129,18 +129,18 @@ fn answer_by<S: Source, K: Sink>(
     requires { is_some keys.now.primary ≡ true }
     ensures answer { (keyset : List ℕ) → GivesLoaded (Ok keys.now) (load keyset)
         → AnswerMeans command keyset aad.now draws.old draws.new
-        (outside_of S.left S.faults K.got K.faults source.old sink.old)
-        (outside_of S.left S.faults K.got K.faults source.new sink.new)
+        (outside S.Source K.Sink source.old sink.old)
+        (outside S.Source K.Sink source.new sink.new)
         result }
     ensures read { (keyset : List ℕ) → GivesLoaded (Ok keys.now) (load keyset)
         → ReadsNoFurther command keyset aad.now
-        (outside_of S.left S.faults K.got K.faults source.old sink.old)
-        (outside_of S.left S.faults K.got K.faults source.new sink.new)
+        (outside S.Source K.Sink source.old sink.old)
+        (outside S.Source K.Sink source.new sink.new)
         result }
     ensures early { LeavesEnds result source.old source.new sink.old sink.new }
     ensures unwritten { LeavesSinkItself result sink.old sink.new }
-    ensures later { FaultsStay (outside_of S.left S.faults K.got K.faults source.old sink.old)
-        (outside_of S.left S.faults K.got K.faults source.new sink.new) }
+    ensures later { FaultsStay (outside S.Source K.Sink source.old sink.old)
+        (outside S.Source K.Sink source.new sink.new) }
     ensures source { S.same source.old source.new }
     ensures sink { K.same sink.old sink.new }
 {

@@ -5,7 +5,7 @@ ghost use Rattle.tink_streaming_io.specs.Sealers.{held_text, segment_map, writer
 ghost use Rattle.tink_streaming_io.specs.declared.writing.Mode.TheVariants.{Open};
 ghost use Rattle.tink_streaming_keys.specs.Encrypting.{IsNewStream};
 ghost use Rattle.tink_streaming_keys.specs.StreamKinds.{key_in_set};
-ghost use Rattle.tink_io.specs.Outside.{FaultsStay, outside_of};
+ghost use Rattle.tink_io.specs.Outside.{FaultsStay, outside};
 ghost use Rattle.tink_run.specs.Run.{IsEarly, LeavesEnds};
 ghost use Rattle.tink_run.specs.SealSteps.{SealsUnder, kind_not_begun};
 
@@ -43,12 +43,12 @@ pub fn seal<S: Source, K: Sink>(
     sink: &mut K,
 ) -> Result<Report, TinkError>
     ensures answer { SealsUnder (key_in_set key.now) aad.now draws.old draws.new
-        (outside_of S.left S.faults K.got K.faults source.old sink.old)
-        (outside_of S.left S.faults K.got K.faults source.new sink.new)
+        (outside S.Source K.Sink source.old sink.old)
+        (outside S.Source K.Sink source.new sink.new)
         result }
     ensures early { LeavesEnds result source.old source.new sink.old sink.new }
-    ensures later { FaultsStay (outside_of S.left S.faults K.got K.faults source.old sink.old)
-        (outside_of S.left S.faults K.got K.faults source.new sink.new) }
+    ensures later { FaultsStay (outside S.Source K.Sink source.old sink.old)
+        (outside S.Source K.Sink source.new sink.new) }
     ensures source { S.same source.old source.new }
     ensures sink { K.same sink.old sink.new }
 {
@@ -77,11 +77,11 @@ fn seal_begun<S: Source, K: Sink, E: SegmentEncrypter + Drop>(
         → writes ≤ K.faults sink.old
         → SealsUnder k aad draws left_draws
         (record { left = S.left source.old; read_faults = S.faults source.old; got = got; write_faults = writes })
-        (outside_of S.left S.faults K.got K.faults source.new sink.new)
+        (outside S.Source K.Sink source.new sink.new)
         result }
     ensures early { IfErr result (λ e. IsEarly e.kind → ⊥) }
-    ensures later { FaultsStay (outside_of S.left S.faults K.got K.faults source.old sink.old)
-        (outside_of S.left S.faults K.got K.faults source.new sink.new) }
+    ensures later { FaultsStay (outside S.Source K.Sink source.old sink.old)
+        (outside S.Source K.Sink source.new sink.new) }
     ensures source { S.same source.old source.new }
     ensures sink { K.same sink.old sink.new }
 {

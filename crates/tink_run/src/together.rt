@@ -9,7 +9,7 @@ ghost use Rattle.tink_io.specs.declared.error.Kind.TheVariants.{WriteFault};
 ghost use Rattle.tink_io.specs.Gathering.{OnlyGrows};
 ghost use Rattle.tink_run.specs.Endings.{EndsAs, IsEndedBy};
 ghost use Rattle.tink_run.specs.OpenReads.{OpensReading};
-ghost use Rattle.tink_io.specs.Outside.{FaultsStay, outside_of};
+ghost use Rattle.tink_io.specs.Outside.{FaultsStay, outside};
 ghost use Rattle.tink_run.specs.Run.{LeavesEnds, LeavesSinkItself};
 ghost use Rattle.tink_run.specs.SealSteps.{SealsUnder};
 
@@ -26,7 +26,7 @@ use tink_streaming_aead::StreamKind;
 ///
 /// # Errors
 /// That of the answer; WriteFault where the sink fails now.
-pub fn ended<K: Sink>(
+pub fn end_call<K: Sink>(
     answer: Result<Report, TinkError>,
     sink: &mut Gathered<'_, K>,
 ) -> Result<Report, TinkError>
@@ -65,18 +65,18 @@ pub(crate) fn seal_together<S: Source, K: Sink>(
 ) -> Result<Report, TinkError>
     requires waiting { vec_capacity waiting.old ≡ 65536 }
     ensures answer { SealsUnder (key_in_set key.now) aad.now draws.old draws.new
-        (outside_of S.left S.faults K.got K.faults source.old sink.old)
-        (outside_of S.left S.faults K.got K.faults source.new sink.new)
+        (outside S.Source K.Sink source.old sink.old)
+        (outside S.Source K.Sink source.new sink.new)
         result }
     ensures early { LeavesEnds result source.old source.new sink.old sink.new }
-    ensures later { FaultsStay (outside_of S.left S.faults K.got K.faults source.old sink.old)
-        (outside_of S.left S.faults K.got K.faults source.new sink.new) }
+    ensures later { FaultsStay (outside S.Source K.Sink source.old sink.old)
+        (outside S.Source K.Sink source.new sink.new) }
     ensures source { S.same source.old source.new }
     ensures sink { K.same sink.old sink.new }
 {
     let mut gathered = Gathered::new(sink, waiting);
     let answer = seal(alloc, key, aad, draws, source, &mut gathered);
-    ended(answer, &mut gathered)
+    end_call(answer, &mut gathered)
 }
 
 // `open` to a sink that gets small pieces together, in memory that is lent.
@@ -90,19 +90,19 @@ pub(crate) fn open_together<S: Source, K: Sink>(
 ) -> Result<Report, TinkError>
     requires waiting { vec_capacity waiting.old ≡ 65536 }
     ensures answer { EndsAs (OpensReading (map (opening.opening_key aad.now) (keys_in (all_entries set.now.entries)))
-        (outside_of S.left S.faults K.got K.faults source.old sink.old))
-        (outside_of S.left S.faults K.got K.faults source.old sink.old)
-        (outside_of S.left S.faults K.got K.faults source.new sink.new)
+        (outside S.Source K.Sink source.old sink.old))
+        (outside S.Source K.Sink source.old sink.old)
+        (outside S.Source K.Sink source.new sink.new)
         result }
     ensures order { KeepsOrder set.now.entries }
     ensures early { LeavesEnds result source.old source.new sink.old sink.new }
     ensures unwritten { LeavesSinkItself result sink.old sink.new }
-    ensures later { FaultsStay (outside_of S.left S.faults K.got K.faults source.old sink.old)
-        (outside_of S.left S.faults K.got K.faults source.new sink.new) }
+    ensures later { FaultsStay (outside S.Source K.Sink source.old sink.old)
+        (outside S.Source K.Sink source.new sink.new) }
     ensures source { S.same source.old source.new }
     ensures sink { K.same sink.old sink.new }
 {
     let mut gathered = Gathered::new(sink, waiting);
     let answer = open(alloc, set, aad, source, &mut gathered);
-    ended(answer, &mut gathered)
+    end_call(answer, &mut gathered)
 }

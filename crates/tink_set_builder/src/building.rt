@@ -2,7 +2,7 @@
 
 ghost use Rattle.std.specs.Prelude.{◌≡◌, ◌⊎◌, ℕ, List, [], None, Some, Ok, Err, IfOk, IfErr, OnOk, IsTrue, true, filter, option_copied};
 ghost use Rattle.std.specs.List.{list_all};
-ghost use Rattle.tink_io.specs.Told.{Answers};
+ghost use Rattle.tink_io.specs.Answering.{Answers};
 ghost use Rattle.tink_io.specs.declared.error.Kind.TheVariants.{OutOfMemory};
 ghost use Rattle.tink_sets.specs.Entries.{entry_of, may_stand, prefix_of};
 ghost use Rattle.tink_sets.specs.Groups.{AreGroupsOf, group_at};

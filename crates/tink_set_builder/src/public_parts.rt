@@ -3,7 +3,7 @@
 ghost use Rattle.std.specs.Prelude.{◌≡◌, IfOk, IsTrue, OnOk};
 ghost use Rattle.std.specs.List.{list_all};
 ghost use Rattle.std.specs.Ordering.{int_eq};
-ghost use Rattle.tink_io.specs.Told.{Answers};
+ghost use Rattle.tink_io.specs.Answering.{Answers};
 ghost use Rattle.tink_proto.specs.Enums.{material_number};
 ghost use Rattle.tink_proto.specs.declared.enums.KeyMaterialType.TheVariants.{AsymmetricPrivate};
 ghost use Rattle.tink_registry.specs.Known.{IsOfKnownMaterial};
@@ -53,7 +53,7 @@ fn public_key<M: KeyManager>(
 ) -> Result<Key, TinkError>
     ensures answer { Answers result (with_data key.now
         (public_data M.url M.has_public M.gives_public registry.now.managers key.now.key_data)) }
-    ensures held { IfOk result (λ k. IsTrue (validity.is_held k)) }
+    ensures held { IfOk result (λ k. IsTrue (validity.fits_handle k)) }
 {
     let key_data = public_data(alloc, &key.key_data, registry)?;
     Ok(Key {
@@ -78,7 +78,7 @@ pub fn public_keys<M: KeyManager>(
 ) -> Result<Repeated<Key>, TinkError>
     ensures answer { Answers result (given_each (λ k. with_data k
         (public_data M.url M.has_public M.gives_public registry.now.managers k.key_data)) keys.now) }
-    ensures held { IfOk result (λ ks. IsTrue (list_all validity.is_held ks)) }
+    ensures held { IfOk result (λ ks. IsTrue (list_all validity.fits_handle ks)) }
 {
     let mut public = Repeated::new(alloc);
     for key in keys {

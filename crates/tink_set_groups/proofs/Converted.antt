@@ -1,7 +1,7 @@
 -- Converting a list step by step.
 use Rattle.std.proofs.Common.{◌≡◌, ◌∙◌, ℕ, suc, ◌+◌, ◌<◌, ◌++◌, ◌∷◌, [], List, Ok, Err, Result, Some, None, Option, length, drop, get_or, refl, sym, ap, append_assoc, add-one, drop-cons}
 use Rattle.tink_io.specs.declared.error.Kind.{Kind}
-use Rattle.tink_io.specs.Told.{made_of}
+use Rattle.tink_io.specs.Answering.{made_of}
 use Rattle.std.specs.Prelude.{Vec}
 use Rattle.std.specs.BTreeMap.{BTreeMap}
 use Rattle.tink_set_groups.specs.Groups.{group_at, HaveSameGroups}

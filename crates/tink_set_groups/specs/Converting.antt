@@ -2,7 +2,7 @@
 use Rattle.std.specs.Prelude.{◌≡◌, ⊤, ℕ, List, [], ◌∷◌, Vec, Option, Some, None, Result, Ok, Err}
 use Rattle.std.specs.BTreeMap.{BTreeMap}
 use Rattle.tink_io.specs.declared.error.Kind.{Kind}
-use Rattle.tink_io.specs.Told.{made_of}
+use Rattle.tink_io.specs.Answering.{made_of}
 use Rattle.tink_set_groups.specs.Groups.{group_at}
 
 -- a value before those that follow, or the first refusal

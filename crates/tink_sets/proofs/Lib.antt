@@ -1,3 +1,4 @@
+pub mod AcceptingFacts
 pub mod BesideFacts
 pub mod PrefixFacts
 pub mod SortFacts

@@ -3,7 +3,7 @@ use Rattle.std.specs.Prelude.{◌≡◌, ◌⊎◌, ⊤, ℕ, List, [], Vec, Opt
 use Rattle.std.specs.BTreeMap.{BTreeMap}
 use Rattle.tink_io.specs.declared.error.Kind.{Kind}
 use Rattle.tink_io.specs.declared.error.Kind.TheVariants.{NotEnabled, OutOfMemory, WrongPrimitive}
-use Rattle.tink_io.specs.Told.{made_of}
+use Rattle.tink_io.specs.Answering.{made_of}
 use Rattle.tink_proto.specs.declared.enums.OutputPrefixType.TheVariants.{UnknownPrefix}
 use Rattle.tink_proto.specs.declared.enums.KeyStatusType.TheVariants.{Enabled}
 use Rattle.tink_proto.specs.declared.messages.keys.Key.{Key}

@@ -1,3 +1,4 @@
+pub mod Accepting
 pub use Rattle.tink_set_groups.specs.Converting
 pub mod Entries
 pub use Rattle.tink_set_groups.specs.Groups

@@ -2,7 +2,7 @@
 
 ghost use Rattle.std.specs.Prelude.{◌≡◌, Ok};
 ghost use Rattle.std.specs.Int.{w32, to_be_bytes};
-ghost use Rattle.tink_io.specs.Told.{Answers};
+ghost use Rattle.tink_io.specs.Answering.{Answers};
 ghost use Rattle.tink_sets.specs.Prefixes.{known_type, told_prefix};
 ghost use Rattle.keyset_model.specs.Entries.{byte_and_id};
 

@@ -4,7 +4,7 @@ ghost use mathlib.Core.Option.{none};
 ghost use Rattle.std.specs.Prelude.{◌≡◌, ◌⊎◌, ⊤, [], ℕ, List, None, Ok, Err, IfOk, IfErr, OnOk, OnErr};
 ghost use Rattle.std.specs.Borrow.{sem, follows_so};
 ghost use Rattle.tink_io.specs.declared.error.Kind.TheVariants.{OutOfMemory};
-ghost use Rattle.tink_io.specs.Told.{Answers};
+ghost use Rattle.tink_io.specs.Answering.{Answers};
 ghost use Rattle.tink_set_groups.specs.Groups.{group_at, group_of, Adds, AddsLast, AreGroupsOf, EndsBy, HaveSameGroups};
 ghost use Rattle.tink_sets.specs.Entries.{may_stand, own_prefix, entry_of, prefix_of, SetAfterAdding};
 

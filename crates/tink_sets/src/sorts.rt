@@ -3,7 +3,7 @@
 ghost use Rattle.std.specs.Prelude.{◌≡◌, ◌⊎◌, Result, Ok, Err, IfOk, IfErr};
 ghost use Rattle.tink_io.specs.declared.error.Kind.{Kind};
 ghost use Rattle.tink_io.specs.declared.error.Kind.TheVariants.{OutOfMemory, WrongPrimitive};
-ghost use Rattle.tink_io.specs.Told.{Answers, Tells};
+ghost use Rattle.tink_io.specs.Answering.{Answers, Tells};
 ghost use Rattle.tink_primitives.specs.Sorts.{as_aead, as_deterministic_aead, as_hybrid_decrypt, as_hybrid_encrypt, as_mac, as_prf, as_signer, as_streaming_aead, as_verifier};
 ghost use Rattle.tink_primitives.specs.declared.primitive.Primitive.{Primitive};
 ghost use Rattle.tink_sets.specs.Entries.{typed_by, with_primitive};

@@ -6,7 +6,7 @@ use Rattle.std.proofs.KnownBytes.{Appends-nil, Appends-trans}
 use Rattle.stream_model.proofs.CutFacts.{full_chunks_fits, open_chunk_fits}
 use Rattle.stream_model.specs.Cut.{full_chunks, open_chunk, room_at, sealed, unmarked}
 use Rattle.stream_model.specs.Key.{StreamKey, first_room, front, keys_of, room, segment_at}
-use Rattle.stream_model.specs.Sealing.{prefix_of, salt_of, sealed_under, stream}
+use Rattle.stream_model.specs.Sealing.{nonce_prefix_of, salt_of, sealed_under, stream}
 use Rattle.tink_streaming_keys.specs.Encrypting.{IsNewStream}
 use Rattle.tink_streaming_io.specs.Writing.{ClosedBy, WriterMoment, Wrote, filled}
 use Rattle.tink_streaming_io.specs.declared.writing.Mode.TheVariants.{Open}
@@ -21,10 +21,10 @@ stream_is k aad salt prefix keys text e = ap (λ o. front k salt prefix ++ seale
 -- a text and a close give the stream of the text
 pub whole_stream : (k : StreamKey) (aad draws left : List ℕ) (before : Option (List ℕ)) (seg : ℕ → Bool → List ℕ → List ℕ) (first later : ℕ) (m n o : WriterMoment) (text : List ℕ)
     → IsNewStream k aad draws left before seg first later m → Wrote seg first later m n text → ClosedBy seg n o
-    → Appends before o.got (stream k aad (salt_of k draws) (prefix_of k draws) text)
+    → Appends before o.got (stream k aad (salt_of k draws) (nonce_prefix_of k draws) text)
 whole_stream k aad draws left before seg first later m n o text s w c =
     let salt = salt_of k draws in
-    let prefix = prefix_of k draws in
+    let prefix = nonce_prefix_of k draws in
     let all : Appends m.got o.got (sealed seg first later text) = (closed_whole seg first later m n o text (record { mode = s.is_open; number = s.number; held = s.held }) w c).0 in
     let keyed : Appends m.got o.got (sealed (segment_at k s.keys prefix) (first_room k) (room k) text) =
     subst (λ (g : ℕ → Bool → List ℕ → List ℕ). Appends m.got o.got (sealed g (first_room k) (room k) text)) s.segments
@@ -48,6 +48,6 @@ none_written seg a b m opened first none =
 
 -- a close before any write gives the stream of the empty text
 pub unwritten_stream : (k : StreamKey) (aad draws left : List ℕ) (before : Option (List ℕ)) (seg : ℕ → Bool → List ℕ → List ℕ) (first later : ℕ) (m o : WriterMoment)
-    → IsNewStream k aad draws left before seg first later m → ClosedBy seg m o → Appends before o.got (stream k aad (salt_of k draws) (prefix_of k draws) [])
+    → IsNewStream k aad draws left before seg first later m → ClosedBy seg m o → Appends before o.got (stream k aad (salt_of k draws) (nonce_prefix_of k draws) [])
 unwritten_stream k aad draws left before seg first later m o s c =
     whole_stream k aad draws left before seg first later m m o [] s (none_written seg first later m s.is_open s.number s.held) c

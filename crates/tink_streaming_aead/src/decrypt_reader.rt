@@ -121,7 +121,7 @@ fn cause_of(kind: Kind) -> Cause
 
 impl<S: Source + Drop> DecryptReader<S> {
     // A reader that has read nothing.
-    pub(crate) fn unread(choice: Choice, source: S) -> DecryptReader<S>
+    pub(crate) fn of_choice(choice: Choice, source: S) -> DecryptReader<S>
         ensures { result ≡ Unread (map key_in_set choice.keys.items) choice.data.items
             (vec_len choice.trial.kept.buffer) source }
     {

@@ -118,7 +118,7 @@ fn add_group<'a>(
 }
 
 // Copies of some entries.
-fn copied(
+fn copy_entries(
     alloc: Global,
     entries: &[&TypedEntry<StreamKind>],
 ) -> Result<Vec<TypedEntry<StreamKind>>, TinkError>
@@ -167,7 +167,7 @@ pub fn choice_of(
     ensures room { IfOk result (λ c. vec_len c.trial.kept.buffer ≡ largest (keys_in c.keys.items) + 1) }
     ensures cause { IfErr result (λ e. e.kind ≡ OutOfMemory) }
 {
-    let keys = copied(alloc, entries)?;
+    let keys = copy_entries(alloc, entries)?;
     let data = aad.to_vec(alloc)?;
     let trial = Trial::reserve(alloc, room_of(&keys), AES_CTR_HMAC_NONCE_SIZE_IN_BYTES)?;
     Ok(Choice { keys, data, trial })
@@ -240,7 +240,7 @@ impl WrappedStreamingAead {
         ensures room { IfOk result (λ made. room_of made ≤ largest_segment self.now.keys + 6) }
     {
         match choice_in(alloc, &self.ps, additional_data) {
-            Ok(choice) => Ok(DecryptReader::unread(choice, r)),
+            Ok(choice) => Ok(DecryptReader::of_choice(choice, r)),
             Err(error) => Err(Refused { error, inner: r }),
         }
     }

@@ -6,7 +6,7 @@ ghost use Rattle.stream_model.specs.Agree.{joined};
 ghost use Rattle.stream_model.specs.Cut.{chunks};
 ghost use Rattle.stream_model.specs.Key.{IsUsable, StreamKey, first_room, fronted, keys_of, room};
 ghost use Rattle.stream_model.specs.Opening.{IsChosen, IsStream, OpeningKey, opening_key};
-ghost use Rattle.stream_model.specs.Sealing.{chunk_count, prefix_of, salt_of, stream};
+ghost use Rattle.stream_model.specs.Sealing.{chunk_count, nonce_prefix_of, salt_of, stream};
 ghost use Rattle.tink_streaming_io.specs.TextReading.{AtEnd, Gave};
 ghost use Rattle.tink_streaming_io.specs.TextReading as reading;
 ghost use Rattle.tink_streaming_io.specs.Writing.{ClosedBy, WriterMoment, Wrote};
@@ -26,11 +26,11 @@ pub fn law_whole_stream()
     ensures whole { (k : StreamKey) (aad draws left : List ℕ) (before : Option (List ℕ))
         (seg : ℕ → Bool → List ℕ → List ℕ) (first later : ℕ) (m n o : WriterMoment) (text : List ℕ)
         → IsNewStream k aad draws left before seg first later m → Wrote seg first later m n text → ClosedBy seg n o
-        → Appends before o.got (stream k aad (salt_of k draws) (prefix_of k draws) text) }
+        → Appends before o.got (stream k aad (salt_of k draws) (nonce_prefix_of k draws) text) }
     ensures unwritten { (k : StreamKey) (aad draws left : List ℕ) (before : Option (List ℕ))
         (seg : ℕ → Bool → List ℕ → List ℕ) (first later : ℕ) (m o : WriterMoment)
         → IsNewStream k aad draws left before seg first later m → ClosedBy seg m o
-        → Appends before o.got (stream k aad (salt_of k draws) (prefix_of k draws) []) }
+        → Appends before o.got (stream k aad (salt_of k draws) (nonce_prefix_of k draws) []) }
 {}
 
 /// The first read of a keyset's reader that is Ok chooses the first key under which the stream begins. It gives

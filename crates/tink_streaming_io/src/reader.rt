@@ -121,7 +121,7 @@ impl<R: Source + Drop, D: SegmentDecrypter + Drop> Reader<R, D> {
         Ok(Reader {
             source: r,
             text: TextReader {
-                reader: SegmentReader::made(opener, buffers, 0),
+                reader: SegmentReader::from_parts(opener, buffers, 0),
                 given: 0,
             },
         })

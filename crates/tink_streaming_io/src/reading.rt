@@ -58,7 +58,7 @@ impl<D: SegmentDecrypter + Drop> SegmentReader<D> {
     ghost use Rattle.tink_streaming_io.specs.Rooms.{HasBuffersFor};
 
     /// A reader that has opened nothing, and holds the first `filled` bytes of `buffers.sealed`.
-    pub fn made(opener: Opener<D>, buffers: Buffers, filled: usize) -> SegmentReader<D>
+    pub fn from_parts(opener: Opener<D>, buffers: Buffers, filled: usize) -> SegmentReader<D>
         requires room { HasBuffersFor opener buffers }
         requires filled { filled ≤ vec_len buffers.sealed }
         ensures progress { result.progress ≡ Running }
@@ -81,7 +81,7 @@ impl<D: SegmentDecrypter + Drop> SegmentReader<D> {
         }
     }
 
-    /// Opens the next segment. Its text is `opened`, and after the last one the reader has ended.
+    /// Opens the next segment. Its text is `plaintext`, and after the last one the reader has ended.
     ///
     /// # Errors
     /// `ReadFault` if the source failed. `TooManySegments` if bytes follow the segment of number 2^32 - 1. `Truncated`
@@ -142,7 +142,7 @@ impl<D: SegmentDecrypter + Drop> SegmentReader<D> {
     }
 
     /// The text of the segment that was opened last, none after a refusal.
-    pub fn opened(&self) -> &[u8]
+    pub fn plaintext(&self) -> &[u8]
         ensures { result.now ≡ self.now.opened.items }
     {
         &self.opened

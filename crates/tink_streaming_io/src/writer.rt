@@ -114,7 +114,7 @@ impl<W: Sink + Drop, E: SegmentEncrypter + Drop> Writer<W, E> {
         };
         Ok(Writer {
             sink: w,
-            inner: SegmentWriter::made(sealer, buffers),
+            inner: SegmentWriter::from_parts(sealer, buffers),
         })
     }
 

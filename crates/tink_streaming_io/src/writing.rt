@@ -51,7 +51,7 @@ impl<E: SegmentEncrypter + Drop> SegmentWriter<E> {
     ghost use Rattle.tink_streaming_io.specs.Sealers.{held_text, segment_map, writer_memory, writer_moment};
 
     /// A writer that has written nothing, of parts that fit.
-    pub fn made(sealer: Sealer<E>, buffers: WriterBuffers) -> SegmentWriter<E>
+    pub fn from_parts(sealer: Sealer<E>, buffers: WriterBuffers) -> SegmentWriter<E>
         requires segment_room { sealer.room + sealer.overhead ≤ vec_len buffers.segment }
         requires nonce_room { vec_len buffers.nonce ≡ sealer.nonce_size }
         ensures mode { result.mode ≡ Open }

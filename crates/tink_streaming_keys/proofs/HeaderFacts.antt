@@ -4,7 +4,7 @@ use Rattle.std.proofs.lemmas.List.{take-append-drop, length-take-le, take-take, 
 use Rattle.std.proofs.Math.Seq.{take-append_seam}
 use Rattle.stream_model.specs.Cut.{numbered}
 use Rattle.stream_model.specs.Key.{StreamKey, header, header_length, nonce_size, segment_at, segment_of}
-use Rattle.stream_model.specs.Sealing.{drawn, prefix_of, salt_of}
+use Rattle.stream_model.specs.Sealing.{drawn, nonce_prefix_of, salt_of}
 use Rattle.tink_streaming_ciphers.specs.declared.stream_segment.StreamSegment.{StreamSegment}
 use Rattle.tink_streaming_ciphers.specs.StreamSegments.{segment_by}
 use Rattle.tink_streaming_keys.specs.StreamingKeys.{IsDerived}
@@ -30,7 +30,7 @@ seg_is k aad salt prefix cipher encrypter size given d e s p =
 
 -- a drawn header: its mark, its salt and its prefix
 pub drawn_header : (k : StreamKey) (draws h : List ℕ) (n : ℕ) → n ≡ header_length k → drawn k ≤ length draws → take n h ≡ header_length k ∷ take (drawn k) draws
-    → (length (take n h) ≡ header_length k) × (get_or (take n h) 0 0 ≡ header_length k) × (take k.derived (drop 1 (take n h)) ≡ salt_of k draws) × (drop (k.derived + 1) (take n h) ≡ prefix_of k draws)
+    → (length (take n h) ≡ header_length k) × (get_or (take n h) 0 0 ≡ header_length k) × (take k.derived (drop 1 (take n h)) ≡ salt_of k draws) × (drop (k.derived + 1) (take n h) ≡ nonce_prefix_of k draws)
 drawn_header k draws h n e enough t = (
   ap length t ∙ omega (arith, length-take-le (drawn k) draws enough),
   ap (λ xs. get_or xs 0 0) t,

@@ -10,7 +10,7 @@ use Rattle.tink_io.specs.declared.error.Kind.{Kind}
 use Rattle.tink_io.specs.declared.error.Kind.TheVariants.{OutOfMemory, RandomFault, UnknownHash, UnsupportedHash, WriteFault}
 use Rattle.tink_primitives.specs.Meaning.{IsEndOf}
 use Rattle.stream_model.specs.Key.{StreamKey, first_room, front, header, header_length, keys_of, nonce_size, room}
-use Rattle.stream_model.specs.Sealing.{drawn, prefix_of, salt_of}
+use Rattle.stream_model.specs.Sealing.{drawn, nonce_prefix_of, salt_of}
 use Rattle.tink_streaming_ciphers.specs.declared.stream_segment.StreamSegment.{StreamSegment}
 use Rattle.tink_streaming_io.specs.declared.writing.Mode.{Mode}
 use Rattle.tink_streaming_io.specs.declared.writing.Mode.TheVariants.{Open}
@@ -47,14 +47,14 @@ hash_refused k draws left kind drew e = elim (hash_refusal k.hkdf_hash kind e) [
 -- a header that was drawn, and the cipher that is derived under its salt
 module _ (k : StreamKey) (aad draws left h : List ℕ) (n m : ℕ) (cipher : StreamSegment) (drew : DrewHeader k draws left) (out : List ℕ) (out_is : out ≡ k.out) (size : n ≡ header_length k) (t : take n h ≡ header_length k ∷ take (drawn k) draws)
     (salt : m ≡ k.derived) (d : IsDerived k aad (take m (drop 1 (take n h))) cipher) where
-  abbrev parts : (length (take n h) ≡ header_length k) × (get_or (take n h) 0 0 ≡ header_length k) × (take k.derived (drop 1 (take n h)) ≡ salt_of k draws) × (drop (k.derived + 1) (take n h) ≡ prefix_of k draws)
+  abbrev parts : (length (take n h) ≡ header_length k) × (get_or (take n h) 0 0 ≡ header_length k) × (take k.derived (drop 1 (take n h)) ≡ salt_of k draws) × (drop (k.derived + 1) (take n h) ≡ nonce_prefix_of k draws)
   parts = drawn_header k draws h n size drew.enough t
 
-  header_is : take n h ≡ header k (salt_of k draws) (prefix_of k draws)
+  header_is : take n h ≡ header k (salt_of k draws) (nonce_prefix_of k draws)
   header_is = header_parts k (take n h) parts.0 parts.1 ∙ ap (λ s. header k s (drop (k.derived + 1) (take n h))) parts.2 ∙ ap (header k (salt_of k draws)) parts.3
 
   -- its bytes behind what stands before a header are the front
-  front_is : out ++ take n h ≡ front k (salt_of k draws) (prefix_of k draws)
+  front_is : out ++ take n h ≡ front k (salt_of k draws) (nonce_prefix_of k draws)
   front_is = ap (λ xs. xs ++ take n h) out_is ∙ ap (λ xs. k.out ++ xs) header_is
 
   salt_is : take m (drop 1 (take n h)) ≡ salt_of k draws
@@ -72,7 +72,7 @@ module _ (k : StreamKey) (aad draws left h : List ℕ) (n m : ℕ) (cipher : Str
     keys = d.keys;
     keys_are = keys_are;
     front_is = front_is;
-    segments = seg_is k aad (take m (drop 1 (take n h))) (prefix_of k draws) cipher encrypter size prefix d e s (p ∙ parts.3);
+    segments = seg_is k aad (take m (drop 1 (take n h))) (nonce_prefix_of k draws) cipher encrypter size prefix d e s (p ∙ parts.3);
     first_is = first;
     later_is = later;
     is_open = is_open;

@@ -9,7 +9,7 @@ use Rattle.tink_io.specs.declared.error.Kind.TheVariants.{OutOfMemory, RandomFau
 use Rattle.tink_primitives.specs.Meaning.{IsEndOf}
 use Rattle.tink_primitives.specs.declared.streams.Refused.{Refused}
 use Rattle.stream_model.specs.Key.{StreamKey, first_room, front, keys_of, nonce_size, room, segment_at}
-use Rattle.stream_model.specs.Sealing.{drawn, prefix_of, salt_of}
+use Rattle.stream_model.specs.Sealing.{drawn, nonce_prefix_of, salt_of}
 use Rattle.tink_streaming_ciphers.specs.StreamSegments.{segment_by}
 use Rattle.tink_streaming_keys.specs.StreamingKeys.{DerivesNothing}
 use Rattle.tink_streaming_io.specs.Writers.{WriterState, moment_of, seg_of}
@@ -28,8 +28,8 @@ pub record IsNewStream (k : StreamKey) (aad draws left : List ℕ) (before : Opt
   pub drew : DrewHeader k draws left
   pub keys : List ℕ
   pub keys_are : keys_of k aad (salt_of k draws) ≡ Some keys
-  pub written : Appends before m.got (front k (salt_of k draws) (prefix_of k draws))
-  pub segments : seg ≡ segment_at k keys (prefix_of k draws)
+  pub written : Appends before m.got (front k (salt_of k draws) (nonce_prefix_of k draws))
+  pub segments : seg ≡ segment_at k keys (nonce_prefix_of k draws)
   pub first_is : first ≡ first_room k
   pub later_is : later ≡ room k
   pub is_open : m.mode ≡ Open
@@ -58,7 +58,7 @@ module _ {W : Type 0} (got : W → Option (List ℕ)) (faults : W → ℕ) (k : 
     pub drew : DrewHeader k draws left
     pub keys : List ℕ
     pub keys_are : keys_of k aad (salt_of k draws) ≡ Some keys
-    pub begun : AppendsPrefix (got old) (got new) (front k (salt_of k draws) (prefix_of k draws))
+    pub begun : AppendsPrefix (got old) (got new) (front k (salt_of k draws) (nonce_prefix_of k draws))
     pub rose : Rose (faults old) (faults new)
 
   -- each refusal of a new writer

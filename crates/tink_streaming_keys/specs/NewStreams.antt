@@ -3,7 +3,7 @@ use Rattle.std.specs.Prelude.{◌≡◌, ℕ, ◌<◌, Bool, List, [], length, S
 use Rattle.tink_io.specs.declared.error.Kind.{Kind}
 use Rattle.tink_io.specs.declared.error.Kind.TheVariants.{OutOfMemory, RandomFault, UnknownHash, UnsupportedHash}
 use Rattle.stream_model.specs.Key.{StreamKey, first_room, front, keys_of, nonce_size, overhead, room, segment_at}
-use Rattle.stream_model.specs.Sealing.{drawn, prefix_of, salt_of}
+use Rattle.stream_model.specs.Sealing.{drawn, nonce_prefix_of, salt_of}
 use Rattle.tink_streaming_keys.specs.Encrypting.{DrewHeader}
 use Rattle.tink_streaming_keys.specs.StreamingKeys.{DerivesNothing}
 use Rattle.tink_streaming_io.specs.declared.writing.Mode.{Mode}
@@ -15,8 +15,8 @@ pub record IsPrepared (k : StreamKey) (aad draws left bytes : List ℕ) (seg : �
   pub drew : DrewHeader k draws left
   pub keys : List ℕ
   pub keys_are : keys_of k aad (salt_of k draws) ≡ Some keys
-  pub front_is : bytes ≡ front k (salt_of k draws) (prefix_of k draws)
-  pub segments : seg ≡ segment_at k keys (prefix_of k draws)
+  pub front_is : bytes ≡ front k (salt_of k draws) (nonce_prefix_of k draws)
+  pub segments : seg ≡ segment_at k keys (nonce_prefix_of k draws)
   pub first_is : first ≡ first_room k
   pub later_is : later ≡ room k
   pub is_open : mode ≡ Open

@@ -6,7 +6,7 @@ use Rattle.hash_keys.specs.Hash.{digest_size}
 use Rattle.tink_io.specs.declared.error.Kind.{Kind}
 use Rattle.tink_io.specs.declared.error.Kind.TheVariants.{BadKeySize, BadTagSize, SegmentTooSmall, UnknownHash, UnsupportedHash}
 use Rattle.tink_io.specs.declared.error.TinkError.{TinkError}
-use Rattle.tink_io.specs.Told.{made_of}
+use Rattle.tink_io.specs.Answering.{made_of}
 use Rattle.stream_model.specs.Key.{SegmentKind, StreamKey, keys_of, overhead_of}
 use Rattle.stream_model.specs.Key.SegmentKind.{CtrHmac, Gcm}
 use Rattle.tink_streaming_keys.specs.declared.stream_params.SegmentParams.{SegmentParams}

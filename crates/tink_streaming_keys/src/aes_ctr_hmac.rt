@@ -1,7 +1,7 @@
 //! Keys of streams in counter mode with HMAC.
 
 ghost use Rattle.tink_core_subtle.specs.Hashes.{hash_named};
-ghost use Rattle.tink_io.specs.Told.{Answers, Tells};
+ghost use Rattle.tink_io.specs.Answering.{Answers, Tells};
 ghost use Rattle.tink_streaming_keys.specs.StreamingKeys.{ctr_hmac_key, ctr_hmac_sizes};
 
 use crate::stream_params::{SegmentParams, StreamParams, is_key_size, is_small};

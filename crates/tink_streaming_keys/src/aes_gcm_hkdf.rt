@@ -1,7 +1,7 @@
 //! Keys of streams by AES-GCM.
 
 ghost use Rattle.tink_core_subtle.specs.Hashes.{hash_named};
-ghost use Rattle.tink_io.specs.Told.{Answers, Tells};
+ghost use Rattle.tink_io.specs.Answering.{Answers, Tells};
 ghost use Rattle.tink_streaming_keys.specs.StreamingKeys.{gcm_hkdf_key, gcm_hkdf_sizes};
 
 use crate::stream_params::{SegmentParams, StreamParams, is_key_size, is_small};

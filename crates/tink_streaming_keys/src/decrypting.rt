@@ -102,7 +102,7 @@ fn begin<T: DerivesStreams, S: Source>(
     let header = &header[..size];
     let cipher = key.derive(&header[1..size - PREFIX], aad)?;
     let opener = opener_of(key, cipher, header, memory.prefix);
-    Ok(SegmentReader::made(opener, memory.buffers, 0))
+    Ok(SegmentReader::from_parts(opener, memory.buffers, 0))
 }
 
 /// A reader of the stream in `r`. It reads the output prefix and the header.

@@ -146,6 +146,6 @@ pub fn prepare_stream<'a, T: DerivesStreams>(
             header,
             size,
         },
-        writer: SegmentWriter::made(sealer, memory.buffers),
+        writer: SegmentWriter::from_parts(sealer, memory.buffers),
     })
 }

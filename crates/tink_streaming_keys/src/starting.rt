@@ -120,7 +120,7 @@ pub fn start<S: Source, T: DerivesStreams>(
                 sealed: kept.buffer,
                 nonce,
             };
-            Ok(SegmentReader::made(opener, buffers, filled - front))
+            Ok(SegmentReader::from_parts(opener, buffers, filled - front))
         }
     }
 }

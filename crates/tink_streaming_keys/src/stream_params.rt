@@ -3,7 +3,7 @@
 ghost use Rattle.std.specs.Prelude.{◌≡◌, ◌⊎◌, ◌≤◌, ◌<◌, ◌+◌, [], Ok, length, nat_le};
 ghost use Rattle.stream_model.specs.Key.{IsTag, IsUsable, StreamKey, derived_bytes_of, first_segment, fronted, header_length, nonce_size, nonce_size_of, overhead, overhead_of};
 ghost use Rattle.tink_core_subtle.specs.Hashes.{hash_named};
-ghost use Rattle.tink_io.specs.Told.{Tells};
+ghost use Rattle.tink_io.specs.Answering.{Tells};
 ghost use Rattle.tink_streaming_keys.specs.StreamingKeys.{Derives, IsDerived, cipher_of, deriving_hash, empty_key, is_key_size, kind_of, with_main};
 
 use hash_keys::Hash;

@@ -2,7 +2,7 @@
 
 ghost use Rattle.std.specs.Prelude.{◌≡◌, Ok};
 ghost use Rattle.stream_model.specs.Key.{header_length};
-ghost use Rattle.tink_io.specs.Told.{Answers};
+ghost use Rattle.tink_io.specs.Answering.{Answers};
 ghost use Rattle.tink_streaming_keys.specs.Decrypting.{StartsReader};
 ghost use Rattle.tink_streaming_keys.specs.Encrypting.{StartsWriter};
 ghost use Rattle.tink_streaming_keys.specs.StreamingKeys.{with_main};

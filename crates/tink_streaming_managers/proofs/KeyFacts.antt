@@ -7,7 +7,7 @@ use Rattle.std.proofs.lemmas.Bool.{and_parts, cond-true, cond-false, eq-eqb, fal
 use Rattle.std.proofs.lemmas.Bool.Decides.{Decides-int_eq, nat_tests}
 use Rattle.hash_keys.specs.declared.Hash.{Hash}
 use Rattle.hash_keys.specs.Hash.{digest_size}
-use Rattle.tink_io.specs.Told.{Answers, made_of, or_refused}
+use Rattle.tink_io.specs.Answering.{Answers, made_of, or_refused}
 use Rattle.tink_io.specs.declared.error.Kind.{Kind}
 use Rattle.tink_io.specs.declared.error.Kind.TheVariants.{InvalidKey}
 use Rattle.tink_io.specs.declared.error.TinkError.{TinkError}

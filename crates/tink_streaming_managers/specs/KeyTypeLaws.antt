@@ -2,7 +2,7 @@
 use Rattle.std.specs.Prelude.{Some, None}
 use Rattle.std.specs.declared.option.Option.{Option}
 use Rattle.tink_io.specs.declared.error.Kind.TheVariants.{InvalidKey}
-use Rattle.tink_io.specs.Told.{made_of, or_refused}
+use Rattle.tink_io.specs.Answering.{made_of, or_refused}
 use Rattle.tink_primitives.specs.Meaning.{IsTold}
 use Rattle.tink_primitives.specs.MeaningLaws.{made_told}
 

@@ -2,7 +2,7 @@
 
 ghost use Rattle.std.specs.Prelude.{◌≡◌};
 ghost use Rattle.loading_model.specs.Building as building;
-ghost use Rattle.tink_io.specs.Told.{Answers, made_of, or_refused};
+ghost use Rattle.tink_io.specs.Answering.{Answers, made_of, or_refused};
 ghost use Rattle.tink_io.specs.declared.error.Kind.TheVariants.{InvalidKey};
 ghost use Rattle.tink_primitives.specs.declared.primitive.Primitive.TheVariants as sorts;
 ghost use Rattle.tink_key_manager.specs.Manager.{made_if};

@@ -1,7 +1,7 @@
 //! Templates of keys of streams. Each asks for keys without a prefix, of the type RAW.
 
 ghost use Rattle.std.specs.Prelude.{Ok};
-ghost use Rattle.tink_io.specs.Told.{Answers};
+ghost use Rattle.tink_io.specs.Answering.{Answers};
 ghost use Rattle.tink_streaming_managers.specs.KeyTypes.{ctr_hmac_template, gcm_hkdf_template};
 
 use crate::{

@@ -8,7 +8,7 @@ use Rattle.tink_keysets.specs.Accepting.{entries_of}
 use Rattle.tink_mac.specs.MacKinds.{kind_verifies}
 use Rattle.tink_mac.specs.Wrapped.{any_verifies}
 use Rattle.tink_mac.specs.Tokens.{spelled, IsAnswered}
-use Rattle.tink_io.specs.Outside.{Outside, HasNoFault, Told}
+use Rattle.tink_io.specs.Outside.{Outside, HasNoFault, AreKnown}
 use Rattle.tink_tokens.specs.Inputs.{IsOfInput}
 use Rattle.tink_tokens.specs.Tokens.{macs_of, CanAnswer, CompletesToken, Macs, RefusesSigning, RefusesVerifying, SignsTo, TokenMeans, TokenRefused, TokenRefuses, VerifiesTo}
 use Rattle.tink_tokens.proofs.ToldLemmas.{long_told, never_loaded, of_loaded}
@@ -23,14 +23,14 @@ module _ (Gives : Macs → List ℕ → List ℕ → Type 0) (Refuses : Macs →
   unloaded : {A : Type 0} (T : List ℕ) (kind : Kind) → CanAnswer Gives Refuses keyset T → macs_of keyset ≡ Err kind → A
   unloaded T kind can cause = absurd (never_loaded (macs_of keyset) kind can.macs cause can.loads)
 
-  of_input : {A : Type 0} (old new : Outside) (T G : List ℕ) (kind : Kind) → Told old T G → HasNoFault old new → CanAnswer Gives Refuses keyset T
+  of_input : {A : Type 0} (old new : Outside) (T G : List ℕ) (kind : Kind) → AreKnown old T G → HasNoFault old new → CanAnswer Gives Refuses keyset T
       → IsOfInput (macs_of keyset) old new (λ macs input. TokenRefuses Gives Refuses old new macs input kind) → A
   of_input old new T G kind told faultless can m =
       absurd (not_refused old new can.macs T can.output kind faultless can.gives
       (of_loaded (macs_of keyset) (λ macs input. TokenRefuses Gives Refuses old new macs input kind) old new T G can.macs told can.loads m))
 
   -- a refusal is the input's own, where neither end fails
-  own_refusal : (old new : Outside) (T G : List ℕ) (kind : Kind) → Told old T G → HasNoFault old new → CanAnswer Gives Refuses keyset T → TokenRefused Gives Refuses keyset old new kind
+  own_refusal : (old new : Outside) (T G : List ℕ) (kind : Kind) → AreKnown old T G → HasNoFault old new → CanAnswer Gives Refuses keyset T → TokenRefused Gives Refuses keyset old new kind
       → (kind ≡ OutOfMemory) ⊎ IsOfInput (macs_of keyset) old new (λ macs input. TokenRefuses Gives Refuses old new macs input kind)
   own_refusal old new T G OutOfMemory told faultless can m = inl refl
   own_refusal old new T G BadKeyset told faultless can m = unloaded T BadKeyset can m.cause
@@ -43,7 +43,7 @@ module _ (Gives : Macs → List ℕ → List ℕ → Type 0) (Refuses : Macs →
   own_refusal old new T G InputTooLong told faultless can m = long_told old T G told m.2 can.fits
   own_refusal old new T G _ told faultless can m = inr m
 
-  by_kind : (old new : Outside) (T G : List ℕ) (kind : Kind) → Told old T G → HasNoFault old new → CanAnswer Gives Refuses keyset T → TokenRefused Gives Refuses keyset old new kind → kind ≡ OutOfMemory
+  by_kind : (old new : Outside) (T G : List ℕ) (kind : Kind) → AreKnown old T G → HasNoFault old new → CanAnswer Gives Refuses keyset T → TokenRefused Gives Refuses keyset old new kind → kind ≡ OutOfMemory
   by_kind old new T G kind told faultless can m =
       elim (own_refusal old new T G kind told faultless can m) [ inl want ↦ want | inr h ↦ of_input old new T G kind told faultless can h ]
 

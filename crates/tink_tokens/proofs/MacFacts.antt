@@ -4,7 +4,7 @@ use Rattle.std.specs.declared.option.Option.{Option}
 use Rattle.std.specs.Prelude.{Result, Ok, Err, find, is_some, nat_eq, length}
 use Rattle.std.specs.Str.{bytes_eq}
 use Rattle.wire_format.specs.Message.{decoded}
-use Rattle.tink_io.specs.Told.{made_of, or_refused}
+use Rattle.tink_io.specs.Answering.{made_of, or_refused}
 use Rattle.tink_io.specs.declared.error.Kind.{Kind}
 use Rattle.tink_io.specs.declared.error.Kind.TheVariants.{BadKeyset, InvalidKey, InvalidKeyset, NoPrimary}
 use Rattle.tink_proto.specs.Messages.{keyset}

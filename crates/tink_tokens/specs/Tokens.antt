@@ -3,7 +3,7 @@ use Rattle.std.specs.Prelude.{◌≡◌, ◌≤◌, ◌++◌, ℕ, List, [], len
 use Rattle.std.specs.Io.KnownBytes.{Appends}
 use Rattle.std.specs.Str.{bytes_eq}
 use Rattle.tink_io.specs.Faults.{Rose}
-use Rattle.tink_io.specs.Told.{made_of}
+use Rattle.tink_io.specs.Answering.{made_of}
 use Rattle.tink_io.specs.Written.{AppendsPrefix}
 use Rattle.tink_io.specs.declared.error.Kind.{Kind}
 use Rattle.tink_io.specs.declared.error.Kind.TheVariants.{OutOfMemory, WriteFault, BadToken, MacMismatch}
@@ -21,7 +21,7 @@ use Rattle.tink_mac.specs.Tokens.{IsAccepted, IsAnswered, IsNoToken, IsSigned}
 use Rattle.tink.specs.Managers.{row_of}
 use Rattle.tink.specs.Registered.{with_everything}
 use Rattle.tink.specs.declared.managers.Managers.{Managers}
-use Rattle.tink_io.specs.Outside.{HasNoFault, Outside, Told}
+use Rattle.tink_io.specs.Outside.{HasNoFault, Outside, AreKnown}
 use Rattle.tink_tokens.specs.Inputs.{input_limit, InputRefused, IsOfInput, LeavesSink}
 
 -- ---- what loads
@@ -119,7 +119,7 @@ module _ (Gives : Macs → List ℕ → List ℕ → Type 0) (Refuses : Macs →
   -- where neither count rose and something is made of the input, the answer is Ok, or there is no memory
   abbrev pub CompletesToken : Outside → Outside → Result (Unit {0}) TinkError → Type 0
   CompletesToken old new answer =
-      (T G : List ℕ) → Told old T G → HasNoFault old new → CanAnswer T → IfErr answer (λ e. e.kind ≡ OutOfMemory)
+      (T G : List ℕ) → AreKnown old T G → HasNoFault old new → CanAnswer T → IfErr answer (λ e. e.kind ≡ OutOfMemory)
 
   -- the keyset loads, and the input, which is not too long, is refused
   pub record CannotAnswer (T : List ℕ) (kind : Kind) : Type 0 where

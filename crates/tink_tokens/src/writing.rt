@@ -2,7 +2,7 @@
 
 ghost use Rattle.std.specs.Prelude.{◌≡◌, ◌+◌, ◌≤◌, IfErr};
 ghost use Rattle.tink_io.specs.Taken.{LosesAtMost};
-ghost use Rattle.tink_io.specs.Outside.{FaultsStay, outside_of};
+ghost use Rattle.tink_io.specs.Outside.{FaultsStay, outside};
 ghost use Rattle.tink_tokens.specs.Inputs.{IsUnloadable, IsUnwritten, input_limit};
 ghost use Rattle.tink_tokens.specs.TokenSteps.{AreLoadedMacs, GivesMacs, MakesOfInput};
 ghost use Rattle.tink_tokens.specs.Tokens.{CompletesToken, Macs, RefusesSigning, RefusesVerifying, SignsTo, TokenMeans, VerifiesTo, macs_in, macs_of};
@@ -30,20 +30,20 @@ pub fn write_token<S: Source, K: Sink>(
     sink: &mut K,
 ) -> Result<(), TinkError>
     ensures answer { TokenMeans SignsTo RefusesSigning keyset.now
-        (outside_of S.left S.faults K.got K.faults source.old sink.old)
-        (outside_of S.left S.faults K.got K.faults source.new sink.new)
+        (outside S.Source K.Sink source.old sink.old)
+        (outside S.Source K.Sink source.new sink.new)
         result }
 
     // Known bytes: where neither end fails, and something is made of the input, it is written, or there is no memory.
     ensures succeeds { CompletesToken SignsTo RefusesSigning keyset.now
-        (outside_of S.left S.faults K.got K.faults source.old sink.old)
-        (outside_of S.left S.faults K.got K.faults source.new sink.new)
+        (outside S.Source K.Sink source.old sink.old)
+        (outside S.Source K.Sink source.new sink.new)
         result }
     ensures taken { LosesAtMost (input_limit + 1) (S.left source.old) (S.left source.new) }
     ensures unread { IfErr result (λ e. IsUnloadable e.kind → source.new ≡ source.old) }
     ensures unwritten { IfErr result (λ e. IsUnwritten e.kind → sink.new ≡ sink.old) }
-    ensures later { FaultsStay (outside_of S.left S.faults K.got K.faults source.old sink.old)
-        (outside_of S.left S.faults K.got K.faults source.new sink.new) }
+    ensures later { FaultsStay (outside S.Source K.Sink source.old sink.old)
+        (outside S.Source K.Sink source.new sink.new) }
     ensures source_same { S.same source.old source.new }
     ensures sink_same { K.same sink.old sink.new }
 {
@@ -58,14 +58,14 @@ fn answer_token<S: Source, K: Sink>(
     sink: &mut K,
 ) -> Result<(), TinkError>
     ensures answer { TokenMeans SignsTo RefusesSigning keyset.now
-        (outside_of S.left S.faults K.got K.faults source.old sink.old)
-        (outside_of S.left S.faults K.got K.faults source.new sink.new)
+        (outside S.Source K.Sink source.old sink.old)
+        (outside S.Source K.Sink source.new sink.new)
         result }
     ensures taken { LosesAtMost (input_limit + 1) (S.left source.old) (S.left source.new) }
     ensures unread { IfErr result (λ e. IsUnloadable e.kind → source.new ≡ source.old) }
     ensures unwritten { IfErr result (λ e. IsUnwritten e.kind → sink.new ≡ sink.old) }
-    ensures later { FaultsStay (outside_of S.left S.faults K.got K.faults source.old sink.old)
-        (outside_of S.left S.faults K.got K.faults source.new sink.new) }
+    ensures later { FaultsStay (outside S.Source K.Sink source.old sink.old)
+        (outside S.Source K.Sink source.new sink.new) }
     ensures source_same { S.same source.old source.new }
     ensures sink_same { K.same sink.old sink.new }
 {
@@ -86,20 +86,20 @@ pub fn write_payload<S: Source, K: Sink>(
     sink: &mut K,
 ) -> Result<(), TinkError>
     ensures answer { TokenMeans VerifiesTo RefusesVerifying keyset.now
-        (outside_of S.left S.faults K.got K.faults source.old sink.old)
-        (outside_of S.left S.faults K.got K.faults source.new sink.new)
+        (outside S.Source K.Sink source.old sink.old)
+        (outside S.Source K.Sink source.new sink.new)
         result }
 
     // Known bytes: where neither end fails, and something is made of the input, it is written, or there is no memory.
     ensures succeeds { CompletesToken VerifiesTo RefusesVerifying keyset.now
-        (outside_of S.left S.faults K.got K.faults source.old sink.old)
-        (outside_of S.left S.faults K.got K.faults source.new sink.new)
+        (outside S.Source K.Sink source.old sink.old)
+        (outside S.Source K.Sink source.new sink.new)
         result }
     ensures taken { LosesAtMost (input_limit + 1) (S.left source.old) (S.left source.new) }
     ensures unread { IfErr result (λ e. IsUnloadable e.kind → source.new ≡ source.old) }
     ensures unwritten { IfErr result (λ e. IsUnwritten e.kind → sink.new ≡ sink.old) }
-    ensures later { FaultsStay (outside_of S.left S.faults K.got K.faults source.old sink.old)
-        (outside_of S.left S.faults K.got K.faults source.new sink.new) }
+    ensures later { FaultsStay (outside S.Source K.Sink source.old sink.old)
+        (outside S.Source K.Sink source.new sink.new) }
     ensures source_same { S.same source.old source.new }
     ensures sink_same { K.same sink.old sink.new }
 {
@@ -114,14 +114,14 @@ fn answer_payload<S: Source, K: Sink>(
     sink: &mut K,
 ) -> Result<(), TinkError>
     ensures answer { TokenMeans VerifiesTo RefusesVerifying keyset.now
-        (outside_of S.left S.faults K.got K.faults source.old sink.old)
-        (outside_of S.left S.faults K.got K.faults source.new sink.new)
+        (outside S.Source K.Sink source.old sink.old)
+        (outside S.Source K.Sink source.new sink.new)
         result }
     ensures taken { LosesAtMost (input_limit + 1) (S.left source.old) (S.left source.new) }
     ensures unread { IfErr result (λ e. IsUnloadable e.kind → source.new ≡ source.old) }
     ensures unwritten { IfErr result (λ e. IsUnwritten e.kind → sink.new ≡ sink.old) }
-    ensures later { FaultsStay (outside_of S.left S.faults K.got K.faults source.old sink.old)
-        (outside_of S.left S.faults K.got K.faults source.new sink.new) }
+    ensures later { FaultsStay (outside S.Source K.Sink source.old sink.old)
+        (outside S.Source K.Sink source.new sink.new) }
     ensures source_same { S.same source.old source.new }
     ensures sink_same { K.same sink.old sink.new }
 {

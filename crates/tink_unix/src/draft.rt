@@ -5,7 +5,7 @@ ghost use Rattle.tink_system.specs.States.{replaces_by};
 ghost use Rattle.tink_unix.specs.OfStatus.{IsOfStatus};
 
 use crate::output::Written;
-use crate::refusals::{unwritable, unwritten};
+use crate::refusals::{refuse_write, unwritable};
 use std::fs;
 use std::fs::{File, Metadata, OpenFile, OpenOptions, TryLockError};
 use std::os::unix::fs::{MetadataExt, OpenOptionsExt, fchown};
@@ -65,8 +65,8 @@ pub fn begin<'w>(rt: &HostRuntime, name: &'w [u8], how: How) -> Result<Draft, Tr
     sweep(rt, target.as_str());
     let found = found_at(rt, name, target.as_str(), how)?;
     require_free(name, &found, how)?;
-    let (file, path) = claimed(rt, name, target.as_str(), how)?;
-    match made(rt, &file, found) {
+    let (file, path) = claim_draft(rt, name, target.as_str(), how)?;
+    match rest_of_draft(rt, &file, found) {
         Ok((sink, waiting, mode)) => Ok(Draft {
             rt: *rt,
             sink,
@@ -83,7 +83,7 @@ pub fn begin<'w>(rt: &HostRuntime, name: &'w [u8], how: How) -> Result<Draft, Tr
         Err(code) => {
             take_away(rt, path.as_str());
             match code {
-                EPERM => Err(unwritten(
+                EPERM => Err(refuse_write(
                     name,
                     "it belongs to another user or group, and a new file cannot be given to them",
                 )),
@@ -107,7 +107,7 @@ fn require_free<'w>(name: &'w [u8], found: &Option<Metadata>, how: How) -> Resul
     ensures { IfErr result (IsOfStatus 12) }
 {
     match how {
-        How::Fresh if found.is_some() => Err(unwritten(
+        How::Fresh if found.is_some() => Err(refuse_write(
             name,
             "it is there already: give another name, or move it away",
         )),
@@ -116,7 +116,7 @@ fn require_free<'w>(name: &'w [u8], found: &Option<Metadata>, how: How) -> Resul
 }
 
 // A new draft, locked, and its path.
-fn claimed<'w>(
+fn claim_draft<'w>(
     rt: &HostRuntime,
     name: &'w [u8],
     target: &str,
@@ -141,7 +141,7 @@ fn target_of<'w>(rt: &HostRuntime, name: &'w [u8]) -> Result<String, Trouble<'w>
     let target = match follow(rt, text) {
         Ok(target) => target,
         Err(NOT_UTF8) => {
-            return Err(unwritten(
+            return Err(refuse_write(
                 name,
                 "it is a link to a name that is not UTF-8, and this program opens no such file",
             ));
@@ -149,9 +149,12 @@ fn target_of<'w>(rt: &HostRuntime, name: &'w [u8]) -> Result<String, Trouble<'w>
         Err(code) => return Err(unwritable(name, code)),
     };
     match parts_of(target.as_str()) {
-        (_, "") => return Err(unwritten(name, "no file's name ends so: give the name of a file")),
+        (_, "") => return Err(refuse_write(
+            name,
+            "no file's name ends so: give the name of a file",
+        )),
         (_, last) if is_name_of_draft(last) => {
-            return Err(unwritten(
+            return Err(refuse_write(
                 name,
                 "the names of drafts end so, and the next run that writes its file would remove it: give another name",
             ));
@@ -172,7 +175,7 @@ fn require_followed<'w>(rt: &HostRuntime, name: &'w [u8], text: &str) -> Result<
         Ok(_) => Ok(()),
         Err(e) => match code_of(e) {
             ENOENT => Ok(()),
-            EACCES | ELOOP => Err(unwritten(name, "the system does not follow this link")),
+            EACCES | ELOOP => Err(refuse_write(name, "the system does not follow this link")),
             code => Err(unwritable(name, code)),
         },
     }
@@ -190,10 +193,10 @@ fn found_at<'w>(
     match fs::symlink_metadata(rt, target) {
         Ok(found) => {
             if found.is_dir() {
-                return Err(unwritten(name, "it is a folder: give the name of a file"));
+                return Err(refuse_write(name, "it is a folder: give the name of a file"));
             }
             if !found.is_file() {
-                return Err(unwritten(name, "it is no regular file"));
+                return Err(refuse_write(name, "it is no regular file"));
             }
             match how {
                 How::Fresh => {}
@@ -202,7 +205,7 @@ fn found_at<'w>(
             Ok(Some(found))
         }
         Err(e) => match (code_of(e), how) {
-            (ENOENT, How::Change) => Err(unwritten(name, "there is no such file")),
+            (ENOENT, How::Change) => Err(refuse_write(name, "there is no such file")),
             (ENOENT, _) => Ok(None),
             (code, _) => Err(unwritable(name, code)),
         },
@@ -219,7 +222,7 @@ fn require_writable<'w>(
     ensures { IfErr result (IsOfStatus 12) }
 {
     if mode & 0o222 == 0 {
-        return Err(unwritten(
+        return Err(refuse_write(
             name,
             "it is write-protected: `chmod u+w` lets it be replaced",
         ));
@@ -227,7 +230,7 @@ fn require_writable<'w>(
     match OpenOptions::new().write(true).open(rt, target) {
         Ok(_) => Ok(()),
         Err(e) => match code_of(e) {
-            EACCES => Err(unwritten(name, "you may not write it")),
+            EACCES => Err(refuse_write(name, "you may not write it")),
             code => Err(unwritable(name, code)),
         },
     }
@@ -255,7 +258,7 @@ fn claim_lone<'w>(
     };
     match claim(rt, path.as_str()) {
         Ok(file) => Ok((file, path)),
-        Err(Unclaimed::Busy) => Err(unwritten(
+        Err(Unclaimed::Busy) => Err(refuse_write(
             name,
             "another run is changing it (its draft NAME.tink.part is locked): wait for it, or end it",
         )),
@@ -265,7 +268,7 @@ fn claim_lone<'w>(
                 path.as_str(),
                 &["no run may take this draft away: remove it, or ask its owner to"],
             );
-            Err(unwritten(name, "a draft blocks each change of it"))
+            Err(refuse_write(name, "a draft blocks each change of it"))
         }
         Err(Unclaimed::Failed(code)) => Err(unwritable(name, code)),
     }
@@ -290,7 +293,7 @@ fn claim_numbered<'w>(
             Err(_) => {}
         }
     }
-    Err(unwritten(
+    Err(refuse_write(
         name,
         "nine runs write it, or their drafts NAME.tink-1.part to NAME.tink-9.part are not yours: wait for them to end",
     ))
@@ -307,7 +310,7 @@ fn claim(rt: &HostRuntime, path: &str) -> Result<File, Unclaimed> {
             .open(rt, path);
         match made {
             Ok(file) => {
-                if is_held(rt, path, &file) {
+                if is_locked(rt, path, &file) {
                     return Ok(file);
                 }
             }
@@ -326,7 +329,7 @@ fn claim(rt: &HostRuntime, path: &str) -> Result<File, Unclaimed> {
 
 // Locks a new draft, and looks whether another run took it away before, as a leftover. On a file system without locks no
 // run takes one away.
-fn is_held(rt: &HostRuntime, path: &str, file: &File) -> bool {
+fn is_locked(rt: &HostRuntime, path: &str, file: &File) -> bool {
     match file.try_lock() {
         Err(TryLockError::WouldBlock) => false,
         _ => names_this(rt, path, file),
@@ -334,7 +337,7 @@ fn is_held(rt: &HostRuntime, path: &str, file: &File) -> bool {
 }
 
 // The rest of a draft: a second handle, memory for what waits, and the owner and the mode of the file that it replaces.
-fn made(
+fn rest_of_draft(
     rt: &HostRuntime,
     file: &File,
     found: Option<Metadata>,

@@ -5,7 +5,7 @@ ghost use Rattle.std.specs.Io.{ReadsAtMost};
 ghost use Rattle.tink_unix.specs.OfStatus.{IsOfStatus};
 
 use crate::apart::{INPUT, IS_OUTPUT, id_of_input, is_input_output, is_output, lock};
-use crate::refusals::{unread, unreadable};
+use crate::refusals::{refuse_read, unreadable};
 use std::fs::{File, OpenFile};
 use std::io::{ErrorKind, Read};
 use std::rt::Stdin;
@@ -118,7 +118,7 @@ impl Input {
         ensures { self.new.faults ≡ self.old.faults }
     {
         let size = match self.size {
-            Some(size) if self.meter.done() < size => size,
+            Some(size) if self.meter.bytes_read() < size => size,
             _ => return false,
         };
         match self.from.size(&self.rt) {
@@ -139,7 +139,7 @@ fn from_input<'w>(rt: HostRuntime, name: &'w [u8]) -> Result<(From, Option<u64>)
     ensures { IfErr result (IsOfStatus 11) }
 {
     if is_input_output(&rt) {
-        return Err(unread(name, IS_OUTPUT));
+        return Err(refuse_read(name, IS_OUTPUT));
     }
     let from = From::Input(rt.stdin(), file_of_input(&rt));
     let size = from.size(&rt);
@@ -178,8 +178,8 @@ fn from_of<'w>(rt: HostRuntime, name: &'w [u8]) -> Result<(From, Option<u64>), T
         Err(e) => return Err(unreadable(name, code_of(e))),
     };
     match file.metadata() {
-        Ok(found) if found.is_dir() => Err(unread(name, "it is a folder")),
-        Ok(found) if is_output(&rt, &found) => Err(unread(name, IS_OUTPUT)),
+        Ok(found) if found.is_dir() => Err(refuse_read(name, "it is a folder")),
+        Ok(found) if is_output(&rt, &found) => Err(refuse_read(name, IS_OUTPUT)),
         Ok(found) if found.is_file() => {
             lock(&file);
             Ok((From::File(file), Some(found.len())))

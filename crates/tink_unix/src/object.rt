@@ -4,7 +4,7 @@ ghost use Rattle.std.specs.Prelude.{◌≡◌, ◌≤◌, ◌<◌, ◌-◌, ⊤,
 ghost use Rattle.tink_unix.specs.OfStatus.{IsOfStatus};
 
 use crate::apart::{IS_OUTPUT, is_output, lock};
-use crate::refusals::{unread, unreadable};
+use crate::refusals::{refuse_read, unreadable};
 use std::fs;
 use std::fs::{File, OpenFile};
 use std::io::ErrorKind;
@@ -77,13 +77,10 @@ fn require_regular<'w>(rt: &HostRuntime, name: &'w [u8], text: &str) -> Result<(
     ensures { IfErr result (IsOfStatus 11) }
 {
     match fs::metadata(rt, text) {
-        Ok(found) if is_output(rt, &found) => Err(unread(name, IS_OUTPUT)),
+        Ok(found) if is_output(rt, &found) => Err(refuse_read(name, IS_OUTPUT)),
         Ok(found) if found.is_file() => Ok(()),
-        Ok(found) if found.is_dir() => Err(unread(name, "it is a folder")),
-        Ok(_) => Err(unread(
-            name,
-            "it is no regular file: copy its bytes into one first",
-        )),
+        Ok(found) if found.is_dir() => Err(refuse_read(name, "it is a folder")),
+        Ok(_) => Err(refuse_read(name, "it is no regular file: copy its bytes into one first")),
         Err(e) => Err(unreadable(name, code_of(e))),
     }
 }

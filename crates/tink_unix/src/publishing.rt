@@ -120,7 +120,7 @@ impl Draft {
             return Err(DRAFT_GONE);
         }
         if self.is_replacing {
-            renamed(&self.rt, path, target)?;
+            rename_file(&self.rt, path, target)?;
         } else {
             appear(&self.rt, path, target)?;
         }
@@ -162,7 +162,7 @@ impl Draft {
     }
 }
 
-fn renamed(rt: &HostRuntime, from: &str, to: &str) -> Result<(), i32> {
+fn rename_file(rt: &HostRuntime, from: &str, to: &str) -> Result<(), i32> {
     match fs::rename(rt, from, to) {
         Ok(()) => Ok(()),
         Err(e) => Err(code_of(e)),
@@ -195,7 +195,7 @@ fn appear_by_claim(rt: &HostRuntime, path: &str, target: &str) -> Result<(), i32
         Ok(claimed) => claimed,
         Err(e) => return Err(code_of(e)),
     };
-    match renamed(rt, path, target) {
+    match rename_file(rt, path, target) {
         Ok(()) => Ok(()),
         Err(code) => {
             unclaim(rt, target, &claimed);

@@ -13,14 +13,14 @@ const ENOMEM: i32 = 12;
 const EACCES: i32 = 13;
 
 /// A refusal by text, of a name that is to be read.
-pub fn unread<'w>(name: &'w [u8], why: &'static str) -> Trouble<'w>
+pub fn refuse_read<'w>(name: &'w [u8], why: &'static str) -> Trouble<'w>
     ensures { IsOfStatus 11 result }
 {
     Trouble::Unusable(name, why, 11)
 }
 
 /// A refusal by text, of a name that is to be written.
-pub fn unwritten<'w>(name: &'w [u8], why: &'static str) -> Trouble<'w>
+pub fn refuse_write<'w>(name: &'w [u8], why: &'static str) -> Trouble<'w>
     ensures { IsOfStatus 12 result }
 {
     Trouble::Unusable(name, why, 12)
@@ -31,14 +31,14 @@ pub fn unreadable<'w>(name: &'w [u8], code: i32) -> Trouble<'w>
     ensures { IsOfStatus 11 result }
 {
     match code {
-        ENOENT => unread(name, "there is no such file"),
-        EACCES => unread(name, "you may not read it"),
+        ENOENT => refuse_read(name, "there is no such file"),
+        EACCES => refuse_read(name, "you may not read it"),
         ENOMEM => Trouble::Refused(name, Kind::OutOfMemory),
-        NOT_UTF8 => unread(
+        NOT_UTF8 => refuse_read(
             name,
             "its name is not UTF-8, and this program opens no such file: rename it, or redirect it by <",
         ),
-        _ => unread(name, reason_of_errno(code)),
+        _ => refuse_read(name, reason_of_errno(code)),
     }
 }
 
@@ -47,13 +47,13 @@ pub fn unwritable<'w>(name: &'w [u8], code: i32) -> Trouble<'w>
     ensures { IsOfStatus 12 result }
 {
     match code {
-        ENOENT => unwritten(name, "its folder is not there"),
-        EACCES => unwritten(name, "you may not write into its folder"),
+        ENOENT => refuse_write(name, "its folder is not there"),
+        EACCES => refuse_write(name, "you may not write into its folder"),
         ENOMEM => Trouble::Refused(name, Kind::OutOfMemory),
-        NOT_UTF8 => unwritten(
+        NOT_UTF8 => refuse_write(
             name,
             "its name is not UTF-8, and this program opens no such file: choose another, or redirect the output by >",
         ),
-        _ => unwritten(name, reason_of_errno(code)),
+        _ => refuse_write(name, reason_of_errno(code)),
     }
 }

@@ -10,7 +10,7 @@ use crate::draft::Draft;
 use crate::input::Input;
 use crate::object::Object;
 use crate::output::{Stream, Way, Written};
-use crate::refusals::{unreadable, unwritable, unwritten};
+use crate::refusals::{refuse_write, unreadable, unwritable};
 use crate::terminals::{leads_to_terminal, may_show};
 use std::alloc::Global;
 use std::fs;
@@ -117,7 +117,7 @@ impl System for Unix {
 
     fn open_stream<'w>(&mut self, name: &'w [u8]) -> Result<Stream, Trouble<'w>> {
         let answer = if self.reads_behind(name) {
-            Err(unwritten(
+            Err(refuse_write(
                 name,
                 "this command reads the file to which it leads: give another name",
             ))
@@ -132,13 +132,13 @@ impl System for Unix {
 
     fn begin<'w>(&mut self, name: &'w [u8], how: How) -> Result<Draft, Trouble<'w>> {
         if self.has_keys && is_input(&self.rt, name) {
-            return Err(unwritten(
+            return Err(refuse_write(
                 name,
                 "the keys are read from this file, by standard input: give another name",
             ));
         }
         if self.reads_draft_of(name) {
-            return Err(unwritten(
+            return Err(refuse_write(
                 name,
                 "the file that is read has the name of its draft: rename that file, or give another name",
             ));
@@ -157,7 +157,7 @@ impl System for Unix {
     }
 
     fn draws(&mut self, alloc: Global, n: usize) -> Result<Draws, Trouble<'static>> {
-        let answer = drawn(self.rt, alloc, n);
+        let answer = draw_bytes(self.rt, alloc, n);
         if answer.is_err() {
             self.faults = self.faults.saturating_add(1);
         }
@@ -263,7 +263,7 @@ fn label_of<'w>(name: Option<&'w [u8]>) -> &'w [u8] {
 }
 
 // Random bytes of the system.
-fn drawn(rt: HostRuntime, alloc: Global, n: usize) -> Result<Draws, Trouble<'static>>
+fn draw_bytes(rt: HostRuntime, alloc: Global, n: usize) -> Result<Draws, Trouble<'static>>
     ensures drawn { IfOk result (λ d. length d ≡ n) }
     ensures refused { IfErr result (IsOfStatus 35) }
 {
@@ -292,14 +292,14 @@ fn stream_of<'w>(rt: HostRuntime, name: &'w [u8]) -> Result<Stream, Trouble<'w>>
     }
     match fs::metadata(&rt, text) {
         Ok(found) if found.is_file() => {
-            return Err(unwritten(
+            return Err(refuse_write(
                 name,
                 "it is a regular file: give its own name, and not that of a descriptor",
             ));
         }
         Ok(_) => {}
         Err(e) => match code_of(e) {
-            ENOENT => return Err(unwritten(name, "no such descriptor is open")),
+            ENOENT => return Err(refuse_write(name, "no such descriptor is open")),
             code => return Err(unwritable(name, code)),
         },
     }

@@ -28,7 +28,7 @@ impl Meter {
     }
 
     /// How many bytes were read.
-    pub fn done(&self) -> u64 {
+    pub fn bytes_read(&self) -> u64 {
         self.done
     }
 

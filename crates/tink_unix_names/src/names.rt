@@ -81,7 +81,7 @@ pub fn follow(rt: &HostRuntime, name: &str) -> Result<String, i32> {
 /// The number of the system's error, ENOMEM if there is no memory.
 pub fn step(rt: &HostRuntime, path: &str) -> Result<Option<String>, i32> {
     match fs::read_link(rt, path) {
-        Ok(target) => match joined(rt, path, target.as_str()) {
+        Ok(target) => match join_link(rt, path, target.as_str()) {
             Ok(next) => Ok(Some(next)),
             Err(_) => Err(ENOMEM),
         },
@@ -93,7 +93,7 @@ pub fn step(rt: &HostRuntime, path: &str) -> Result<Option<String>, i32> {
 }
 
 // A link's text, seen from the folder in which the link is.
-fn joined(rt: &HostRuntime, link: &str, target: &str) -> Result<String, AllocError> {
+fn join_link(rt: &HostRuntime, link: &str, target: &str) -> Result<String, AllocError> {
     if target.starts_with('/') {
         return String::from_str(rt.alloc(), target);
     }

@@ -41,7 +41,7 @@ pub fn encrypt<
 >(tv: &TestVector) -> Result<(), &'static str>
     ensures told { Reports result (encrypt_fault K I B C.keyed C.step tv.now) }
 {
-    tested::<Encrypting, C, K, I, B>(
+    check_vector::<Encrypting, C, K, I, B>(
         tv,
         tv.plaintext,
         tv.ciphertext,
@@ -65,7 +65,7 @@ pub fn decrypt<
 >(tv: &TestVector) -> Result<(), &'static str>
     ensures told { Reports result (decrypt_fault K I B C.keyed C.step tv.now) }
 {
-    tested::<Decrypting, C, K, I, B>(
+    check_vector::<Decrypting, C, K, I, B>(
         tv,
         tv.ciphertext,
         tv.plaintext,
@@ -76,7 +76,7 @@ pub fn decrypt<
 }
 
 // whether a mode under the key and the initialization vector of a test makes of some bytes what is wanted
-fn tested<D, C: KeyIvInit<K, I> + Runs<D, B>, const K: usize, const I: usize, const B: usize>(
+fn check_vector<D, C: KeyIvInit<K, I> + Runs<D, B>, const K: usize, const I: usize, const B: usize>(
     tv: &TestVector,
     from: &[u8],
     wanted: &[u8],
@@ -180,7 +180,7 @@ fn parts_alike<D, M: Runs<D, B>, const B: usize>(mode: &mut M, other: &mut M, by
 {
     let mut at = 0;
     while at < bytes.len() {
-        if !eight_alike::<D, M, B>(mode, other, &mut loaded(&bytes[at..])) {
+        if !eight_alike::<D, M, B>(mode, other, &mut eight_blocks(&bytes[at..])) {
             return false;
         }
         at += 8 * B;
@@ -212,7 +212,7 @@ fn run_singly<D, M: Runs<D, B>, const B: usize>(mode: &mut M, blocks: &mut [[u8;
 }
 
 // eight blocks that begin with the whole blocks of these bytes
-fn loaded<const B: usize>(bytes: &[u8]) -> [[u8; B]; 8]
+fn eight_blocks<const B: usize>(bytes: &[u8]) -> [[u8; B]; 8]
     requires { (1 ≤ B) × (B < 256) }
 {
     let mut blocks = [[0; B]; 8];

@@ -4,7 +4,7 @@ ghost use Rattle.std.specs.Prelude.{◌≡◌, ℕ, ◌+◌, ◌-◌, ◌*◌, �
 ghost use Rattle.cipher_stream.specs.ByteStream.{buffered, to_come, position, IsSame, HasRoomAt, blocks_before, rest_at};
 
 use crate::cores::seeking::StreamCipherSeekCore;
-use crate::counters::{StreamCipherCounter, told};
+use crate::counters::{StreamCipherCounter, with_range};
 use crate::errors::{OverflowError, StreamCipherError};
 use crate::positions::SeekNum;
 use crate::seek::StreamCipherSeek;
@@ -29,7 +29,7 @@ impl<T: StreamCipherSeekCore<B>, const B: usize> BufferedCore<T, [u8; B]> {
         if inside {
             self.core.write_keystream_block(&mut self.buffer);
             self.used = byte as usize;
-            told(self.core.get_block_pos());
+            with_range(self.core.get_block_pos());
         }
     }
 }
@@ -40,7 +40,7 @@ impl<T: StreamCipherSeekCore<B>, const B: usize> StreamCipherSeek for BufferedCo
     ghost room_at = { λ n m. HasRoomAt B T.remaining_at n m };
 
     fn try_current_pos<N: SeekNum>(&self) -> Result<N, OverflowError> {
-        let block = told(self.core.get_block_pos());
+        let block = with_range(self.core.get_block_pos());
         N::from_block_byte(block, self.used as u8, B as u8)
     }
 

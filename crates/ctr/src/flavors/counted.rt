@@ -214,7 +214,7 @@ impl<W: CounterWord, const B: usize> CountedNonce<W, [u8; B]> {
 
     // The nonce with the counter added at this end.
     #[tactic(auto, using(crate::specs::FlavorLaws::plus_repeats))]
-    pub(crate) fn added<E: FieldEnd>(&self) -> [u8; B]
+    pub(crate) fn counter_block<E: FieldEnd>(&self) -> [u8; B]
         requires { byte_len W.width ≤ B }
         ensures value { result ≡ plus E.end W.width self.now.nonce (W.value self.now.ctr % field_size W.width) }
     {

@@ -68,13 +68,13 @@ where
     }
 
     fn next_block(cn: &mut CtrNonce64<B>) -> [u8; B] {
-        let block = cn.added::<E>();
+        let block = cn.counter_block::<E>();
         cn.count();
         block
     }
 
     fn current_block(cn: &CtrNonce64<B>) -> [u8; B] {
-        cn.added::<E>()
+        cn.counter_block::<E>()
     }
 
     fn from_nonce(block: &[u8; B]) -> CtrNonce64<B> {

@@ -1,12 +1,12 @@
 //! The keys of AES-SIV, their template, and the deterministic AEADs of keysets.
 
-ghost use Rattle.tink_io.specs.Told.{Answers};
+ghost use Rattle.tink_io.specs.Answering.{Answers};
 ghost use Rattle.tink_daead.specs.Wrapped.{primary_encrypts};
 
 use std::alloc::Global;
 use test_util::{
-    Answer, Ask, NamedRegistry, Template, Told, asked, draws_of, gives, is_made_and_registered,
-    made, registry_of,
+    Answer, Ask, NamedRegistry, Template, Verdict, ask_made, draws_of, gives,
+    is_made_and_registered, registry_of, succeeds,
 };
 use tink_core::keyset::Handle;
 use tink_core::keyset::insecure::{decode, new_handle};
@@ -57,7 +57,7 @@ enum Call {
 // ---- keys
 
 fn makes(alloc: Global, format: &[u8], draws: &mut Draws, left: usize) -> Result<bool, TinkError> {
-    let answer = made(AesSivKeyManager::new().new_key(alloc, format, draws));
+    let answer = succeeds(AesSivKeyManager::new().new_key(alloc, format, draws));
     if draws.left() == left {
         answer
     } else {
@@ -146,13 +146,13 @@ const TEMPLATE: Template = Template("AES256_SIV", AES_SIV_TYPE_URL, b"\x08\x40",
 impl Ask<NamedRegistry> for Asked {
     fn answer(&self, alloc: Global, registry: &mut NamedRegistry) -> Result<bool, TinkError> {
         match *self {
-            Asked::Build(key) => made(AesSivKeyManager::new().primitive(alloc, key)),
+            Asked::Build(key) => succeeds(AesSivKeyManager::new().primitive(alloc, key)),
             Asked::Make(format, n, left) => makes_by(alloc, format, n, left),
-            Asked::Register => made(init(alloc, registry)),
+            Asked::Register => succeeds(init(alloc, registry)),
             Asked::Template => {
                 is_made_and_registered(registry, &TEMPLATE, aes_siv_key_template(alloc))
             }
-            Asked::Keyset(primary, ref call) => asked(alloc, two_keys(alloc, primary), call),
+            Asked::Keyset(primary, ref call) => ask_made(alloc, two_keys(alloc, primary), call),
         }
     }
 }
@@ -265,10 +265,10 @@ const ROWS: &[(&str, Asked, Answer)] = &[
 ];
 
 /// Each row, and that the laws hold of these types.
-pub fn keys_and_keysets_are_as_the_rows_say(alloc: Global, told: &mut Told) {
+pub fn keys_and_keysets_are_as_the_rows_say(alloc: Global, verdict: &mut Verdict) {
     law_old_ciphertexts_open::<AesSivKeyManager, AesSiv>();
     law_ciphertexts_outlive_commands::<AesSivKeyManager, AesSiv>();
-    told.walk(alloc, Registry::new(alloc), ROWS);
+    verdict.walk(alloc, Registry::new(alloc), ROWS);
     let as_known = AES_SIV_KEY_VERSION == 0 && AES_SIV_KEY_SIZE == 64;
-    told.expect(Ok(as_known), Ok(true), "the version and the size");
+    verdict.expect(Ok(as_known), Ok(true), "the version and the size");
 }

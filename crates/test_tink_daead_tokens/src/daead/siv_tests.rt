@@ -1,12 +1,12 @@
 //! AES-SIV under one key: outside vectors, refusals and copies.
 
 ghost use Rattle.std.specs.Prelude.{Ok};
-ghost use Rattle.tink_io.specs.Told.{Answers};
+ghost use Rattle.tink_io.specs.Answering.{Answers};
 ghost use Rattle.tink_daead.specs.AesSiv.{aes_siv};
 
 use hash_keys::Hash;
 use std::alloc::Global;
-use test_util::{Told, gives, kind_of};
+use test_util::{Verdict, gives, kind_of};
 use tink_core::{CloneIn, DeterministicAead, Kind, TinkError};
 use tink_daead::subtle::AesSiv;
 use tink_proto::Bytes;
@@ -74,7 +74,7 @@ const OF_A_TEXT: &[u8; 22] =
     b"\x0c\x56\xe3\x64\x59\x5f\xb7\x89\x6f\xec\x9d\xd4\x27\xc7\x6f\xdf\xad\xe7\x5e\xcb\x4b\x8a";
 
 // Bytes of which each is by a step more than the one before it.
-fn stepped(first: u8, step: u8) -> [u8; 1000] {
+fn bytes_by_step(first: u8, step: u8) -> [u8; 1000] {
     let mut bytes = [0; 1000];
     let mut next = first;
     for at in 0..1000usize {
@@ -102,9 +102,9 @@ fn holds(
     text: usize,
     digest: u64,
 ) -> Result<bool, TinkError> {
-    let key = &stepped(7, 5)[..key.min(1000)];
-    let data = &stepped(1, 7)[..data.min(1000)];
-    let text = &stepped(3, 11)[..text.min(1000)];
+    let key = &bytes_by_step(7, 5)[..key.min(1000)];
+    let data = &bytes_by_step(1, 7)[..data.min(1000)];
+    let text = &bytes_by_step(3, 11)[..text.min(1000)];
     has_digest(made_by(alloc, key, text, data), digest)
 }
 
@@ -190,7 +190,7 @@ enum Asked {
     Sizes,
 }
 
-fn answered(alloc: Global, asked: &Asked) -> Result<bool, TinkError> {
+fn answer_row(alloc: Global, asked: &Asked) -> Result<bool, TinkError> {
     match asked {
         Asked::Known(key, text, data, want) => gives(made_by(alloc, key, text, data), want),
         Asked::Made(key, data, text, digest) => holds(alloc, *key, *data, *text, *digest),
@@ -282,8 +282,8 @@ const ROWS: &[(&str, Asked)] = &[
     ("keys and inputs", Asked::Sizes),
 ];
 
-pub fn aes_siv_is_as_the_rows_say(alloc: Global, told: &mut Told) {
+pub fn aes_siv_is_as_the_rows_say(alloc: Global, verdict: &mut Verdict) {
     for (row, asked) in ROWS {
-        told.expect(answered(alloc, asked), Ok(true), row);
+        verdict.expect(answer_row(alloc, asked), Ok(true), row);
     }
 }

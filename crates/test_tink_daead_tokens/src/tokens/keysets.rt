@@ -1,7 +1,7 @@
 //! The MACs of keysets.
 
 use std::alloc::Global;
-use test_util::{draws_of, enabled_key, handle_of, made, registry_of};
+use test_util::{draws_of, enabled_key, handle_of, registry_of, succeeds};
 use tink_core::keyset::{Handle, Manager};
 use tink_core::registry::{KeyManager, Registry};
 use tink_core::{Kinds, TinkError};
@@ -63,10 +63,10 @@ fn edit_by(
     edit: &Edit,
 ) -> Result<bool, TinkError> {
     match edit {
-        Edit::Rotate => made(rotate(alloc, registry, manager)),
-        Edit::Disable => made(manager.disable(ID)),
-        Edit::Enable => made(manager.enable(ID)),
-        Edit::Delete => made(manager.delete(ID)),
+        Edit::Rotate => succeeds(rotate(alloc, registry, manager)),
+        Edit::Disable => succeeds(manager.disable(ID)),
+        Edit::Enable => succeeds(manager.enable(ID)),
+        Edit::Delete => succeeds(manager.delete(ID)),
     }
 }
 
@@ -82,7 +82,7 @@ fn edit_all(
     Ok(())
 }
 
-fn edited(
+fn keyset_after(
     alloc: Global,
     registry: &Registry<HmacKeyManager>,
     edits: &[Edit],
@@ -113,7 +113,7 @@ fn handle(
     keys: &Keys,
 ) -> Result<Handle, TinkError> {
     match keys {
-        Keys::Edited(edits) => edited(alloc, registry, edits),
+        Keys::Edited(edits) => keyset_after(alloc, registry, edits),
         Keys::One(prefix, id) => one_key(alloc, HMAC_TYPE_URL, HMAC_KEY, *prefix, *id),
     }
 }

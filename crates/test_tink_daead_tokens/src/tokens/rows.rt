@@ -3,7 +3,7 @@
 use crate::tokens::keysets::{Edit, ID, Keys, cmacs, macs};
 use crate::tokens::texts::{Asked, TOKEN};
 use std::alloc::Global;
-use test_util::{Answer, Ask, Told, asked, registry_of};
+use test_util::{Answer, Ask, Verdict, ask_made, registry_of};
 use tink_core::registry::Registry;
 use tink_core::{Kind, TinkError};
 use tink_mac::tokens::{
@@ -32,7 +32,7 @@ impl Ask<Registry<HmacKeyManager>> for Given {
         alloc: Global,
         registry: &mut Registry<HmacKeyManager>,
     ) -> Result<bool, TinkError> {
-        asked(alloc, macs(alloc, registry, &self.0), &self.1)
+        ask_made(alloc, macs(alloc, registry, &self.0), &self.1)
     }
 }
 
@@ -240,26 +240,26 @@ fn registry(alloc: Global) -> Result<Registry<HmacKeyManager>, TinkError> {
 }
 
 // Each table has a function of its own: the proof of one grows with the square of its texts.
-fn known(told: &mut Told, alloc: Global) {
-    told.walk_made(alloc, registry(alloc), "the registry", KNOWN);
+fn walk_known(verdict: &mut Verdict, alloc: Global) {
+    verdict.walk_made(alloc, registry(alloc), "the registry", KNOWN);
 }
 
-fn misparted(told: &mut Told, alloc: Global) {
-    told.walk_made(alloc, registry(alloc), "the registry", MISPARTED);
+fn walk_misparted(verdict: &mut Verdict, alloc: Global) {
+    verdict.walk_made(alloc, registry(alloc), "the registry", MISPARTED);
 }
 
-fn misspelled(told: &mut Told, alloc: Global) {
-    told.walk_made(alloc, registry(alloc), "the registry", MISSPELLED);
+fn walk_misspelled(verdict: &mut Verdict, alloc: Global) {
+    verdict.walk_made(alloc, registry(alloc), "the registry", MISSPELLED);
 }
 
 /// Each row, and that the laws hold of these types.
-pub fn tokens_are_as_the_rows_say(alloc: Global, told: &mut Told) {
+pub fn tokens_are_as_the_rows_say(alloc: Global, verdict: &mut Verdict) {
     law_signed_tokens_verify::<HmacKeyManager, MacKind>();
     law_old_tokens_verify::<HmacKeyManager, MacKind>();
     law_tokens_outlive_commands::<AesCmacKeyManager, MacKind>();
-    known(told, alloc);
-    misparted(told, alloc);
-    misspelled(told, alloc);
-    let got = asked(alloc, cmacs(alloc), &Asked::ComeBack);
-    told.expect(got, Ok(true), "payloads of 0 to 70 bytes by AES-CMAC");
+    walk_known(verdict, alloc);
+    walk_misparted(verdict, alloc);
+    walk_misspelled(verdict, alloc);
+    let got = ask_made(alloc, cmacs(alloc), &Asked::ComeBack);
+    verdict.expect(got, Ok(true), "payloads of 0 to 70 bytes by AES-CMAC");
 }

@@ -3,7 +3,7 @@
 ghost use Rattle.std.specs.Prelude.{◌≡◌, IfOk};
 
 use std::alloc::Global;
-use test_util::{Ask, gives, kind_of, made};
+use test_util::{Ask, gives, kind_of, succeeds};
 use tink_core::{Kind, Mac, TinkError};
 use tink_mac::tokens::{sign, verify};
 use tink_mac::{MacKind, WrappedMac};
@@ -28,7 +28,7 @@ impl Ask<WrappedMac<MacKind>> for Asked {
     fn answer(&self, alloc: Global, macs: &mut WrappedMac<MacKind>) -> Result<bool, TinkError> {
         match *self {
             Asked::Sign(payload, token) => is_signed(alloc, macs, payload, token),
-            Asked::Verify(text) => made(verify(alloc, macs, text)),
+            Asked::Verify(text) => succeeds(verify(alloc, macs, text)),
             Asked::ComeBack => come_back(alloc, macs),
             Asked::NoOther => Ok(are_refused_at_all(alloc, macs)),
         }

@@ -1,13 +1,13 @@
 //! What holds of a keyset that is wrapped and unwrapped again.
 
 ghost use Rattle.std.specs.Prelude.{◌≡◌, ℕ, List, Ok};
-ghost use Rattle.tink_io.specs.Told.{Answers};
+ghost use Rattle.tink_io.specs.Answering.{Answers};
 ghost use Rattle.tink_keysets.specs.Through.{LeavesDraws};
 ghost use Rattle.tink_cli_files.specs.Masters.{IsMaster, MasterKeys, master_of};
 ghost use Rattle.tink_cli_files.specs.ThereAndBack.{OpensWhatItWraps, WrappedOutlives, returned_file};
 ghost use Rattle.tink_cli_files.specs.Wrapping.{unspent_file};
 
-use crate::under_master::{Master, unwrapped, wrapped};
+use crate::under_master::{Master, unwrap_file, wrap_file};
 use std::alloc::Global;
 use tink_io::{Draws, TinkError};
 use tink_keyset_io::key_files::Format;
@@ -34,8 +34,8 @@ pub fn law_wrapped_is_unwrapped(
     ensures rest { (m : MasterKeys) → IsMaster m master.now
         → LeavesDraws result (unspent_file m keys.items aad.now draws.old) draws.old draws.new }
 {
-    let file = wrapped(alloc, master, keys, aad, Format::Binary, draws)?;
-    unwrapped(alloc, master, file.as_slice(), aad, format)
+    let file = wrap_file(alloc, master, keys, aad, Format::Binary, draws)?;
+    unwrap_file(alloc, master, file.as_slice(), aad, format)
 }
 
 /// A master wraps a keyset, and then commands edit the master. If none disables, destroys or deletes a key of its

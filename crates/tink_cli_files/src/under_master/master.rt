@@ -1,6 +1,6 @@
 //! The AEADs of a file of keys.
 
-ghost use Rattle.tink_io.specs.Told.{Answers};
+ghost use Rattle.tink_io.specs.Answering.{Answers};
 ghost use Rattle.tink_cli_files.specs.Masters.{GivesMaster, master_in, master_of, valid_in_file};
 
 use std::alloc::Global;

@@ -2,7 +2,7 @@
 
 ghost use Rattle.std.specs.Prelude.{◌≡◌, IfOk, IfErr, Ok};
 ghost use Rattle.wire_format.specs.Message.{decoded, encoded};
-ghost use Rattle.tink_io.specs.Told.{Answers, or_refused};
+ghost use Rattle.tink_io.specs.Answering.{Answers, or_refused};
 ghost use Rattle.tink_io.specs.declared.error.Kind.TheVariants.{BadJson, BadKeyset, OutOfMemory};
 ghost use Rattle.tink_json.specs.Messages.{encrypted_keyset as json_form, message_of};
 ghost use Rattle.tink_json.specs.Written.{encrypted_keyset_value, pretty_text};

@@ -2,7 +2,7 @@
 
 ghost use Rattle.std.specs.Prelude.{◌≡◌, IfOk, OnOk, Ok};
 ghost use Rattle.wire_format.specs.Message.{encoded};
-ghost use Rattle.tink_io.specs.Told.{Answers};
+ghost use Rattle.tink_io.specs.Answering.{Answers};
 ghost use Rattle.tink_proto.specs.Messages.{keyset};
 ghost use Rattle.tink_proto.specs.declared.messages.keys.Keyset.{Keyset};
 ghost use Rattle.tink_keysets.specs.Encrypted.{handle_of_bytes};
@@ -27,7 +27,7 @@ use tink_proto::{Bytes, EncryptedKeyset, Keyset};
 /// `BadJson`, `BadKeyset` and `InvalidKeyset` exactly if the file of keys is no valid keyset, as `load_master`.
 /// Then `MasterFailed` exactly if the master refuses: the keyset is too long for it, or too few draws are left.
 /// `OutOfMemory` may come in place of each.
-pub fn wrapped(
+pub fn wrap_file(
     alloc: Global,
     master: &Master,
     keys: Vec<u8>,
@@ -54,7 +54,7 @@ pub fn wrapped(
     wrapped_text(alloc, format, &encrypted)
 }
 
-/// The keyset that a master decrypts with the associated data, as a file of keys of this format. `wrapped` or Tink
+/// The keyset that a master decrypts with the associated data, as a file of keys of this format. `wrap_file` or Tink
 /// made the encrypted file.
 ///
 /// # Errors
@@ -62,7 +62,7 @@ pub fn wrapped(
 /// is not JSON, and spells no encrypted keyset. Then `MasterFailed` exactly if no key of the master decrypts it with
 /// this data. Then `BadKeyset` and `InvalidKeyset` exactly if the decrypted bytes are no keyset that a handle may
 /// hold. Then `KeysetTooLong` exactly if the file has no room. `OutOfMemory` may come in place of each.
-pub fn unwrapped(
+pub fn unwrap_file(
     alloc: Global,
     master: &Master,
     wrapped: &[u8],

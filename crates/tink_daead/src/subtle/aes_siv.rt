@@ -3,7 +3,7 @@
 ghost use Rattle.std.specs.Prelude.{◌≡◌, ◌+◌, ◌↔◌, ⊤, false, length, IsTrue, MatchOption};
 ghost use Rattle.standards.specs.AesKeys.{aes};
 ghost use Rattle.standards.specs.Siv.{s2v};
-ghost use Rattle.tink_io.specs.Told.{Answers, Tells};
+ghost use Rattle.tink_io.specs.Answering.{Answers, Tells};
 ghost use Rattle.tink_daead.specs.AesSiv.{aes_siv, aes_siv_decrypts, aes_siv_decrypts_told, aes_siv_encrypts};
 ghost use Rattle.tink_daead.specs.AesSiv.{is_siv_key_size, mac_half, siv_key, text_behind};
 ghost use Rattle.tink_daead.specs.AesSivLaws.{DecryptsExactly, HasOneText, RefusesOthers, RefusesShort};

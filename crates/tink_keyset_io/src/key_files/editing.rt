@@ -2,12 +2,12 @@
 
 ghost use Rattle.std.specs.Prelude.{◌≡◌, Ok, Err, IfOk, IfErr};
 ghost use Rattle.keyset_model.specs.Edits as edits;
-ghost use Rattle.keyset_model.specs.Validity.{IsValid, MayBeHeld};
-ghost use Rattle.tink_io.specs.Told.{Answers};
+ghost use Rattle.keyset_model.specs.Validity.{IsValid, FitsHandle};
+ghost use Rattle.tink_io.specs.Answering.{Answers};
 ghost use Rattle.tink_io.specs.declared.error.Kind.TheVariants.{OutOfMemory};
-ghost use Rattle.tink_keysets.specs.Told.{Edits};
+ghost use Rattle.tink_keysets.specs.Editing.{Edits};
 ghost use Rattle.tink_keysets.specs.Valid.{valid_or_refused};
-ghost use Rattle.tink_keyset_io.specs.Edited.{edited, edited_by, edited_file, held_keyset, start_of};
+ghost use Rattle.tink_keyset_io.specs.Edited.{edited, edited_by, edited_file, fitting_keyset, start_of};
 
 use crate::key_files::formats::{Format, as_file, wire_bytes};
 use std::alloc::Global;
@@ -35,7 +35,7 @@ pub enum Edit {
 /// The first that applies: `BadKeyset` exactly if the bytes spell none. `InvalidKeyset` exactly if no handle may hold it, and
 /// for the other edits if it is not valid. Those of the command of `Manager`; `InvalidKeyset` exactly if the edited keyset is
 /// not valid. `OutOfMemory` may come in place of each.
-pub fn edited(alloc: Global, keyset: &[u8], edit: Edit, id: u32) -> Result<Keyset, TinkError>
+pub fn edit_keyset(alloc: Global, keyset: &[u8], edit: Edit, id: u32) -> Result<Keyset, TinkError>
     ensures answer { Answers result (edited keyset.now edit id) }
     ensures valid { IfOk result IsValid }
 {
@@ -48,13 +48,13 @@ pub fn edited(alloc: Global, keyset: &[u8], edit: Edit, id: u32) -> Result<Keyse
 /// The file with its keyset edited, in the format that it has.
 ///
 /// # Errors
-/// The first that applies: those of `wire_bytes`; those of `edited`; `KeysetTooLong` exactly if the edited file has no room.
+/// The first that applies: those of `wire_bytes`; those of `edit_keyset`; `KeysetTooLong` exactly if the edited file has no room.
 pub fn edited_file(alloc: Global, file: Vec<u8>, edit: Edit, id: u32) -> Result<Bytes, TinkError>
     ensures { Answers result (edited_file file.items edit id) }
 {
     let format = Format::of_file(&file);
     let keyset = wire_bytes(alloc, file)?;
-    let keyset = edited(alloc, keyset.as_slice(), edit, id)?;
+    let keyset = edit_keyset(alloc, keyset.as_slice(), edit, id)?;
     as_file(alloc, format, &keyset)
 }
 
@@ -63,14 +63,14 @@ fn start_of(alloc: Global, edit: Edit, keyset: &[u8]) -> Result<Handle, TinkErro
     ensures { Answers result (start_of edit keyset.now) }
 {
     match edit {
-        Edit::Promote | Edit::Enable => held(alloc, keyset),
+        Edit::Promote | Edit::Enable => any_handle(alloc, keyset),
         Edit::Disable | Edit::Destroy | Edit::Delete => insecure::valid_handle(alloc, keyset),
     }
 }
 
 // A handle of the keyset that bytes spell, whatever its keys are.
-fn held(alloc: Global, keyset: &[u8]) -> Result<Handle, TinkError>
-    ensures { Answers result (held_keyset keyset.now) }
+fn any_handle(alloc: Global, keyset: &[u8]) -> Result<Handle, TinkError>
+    ensures { Answers result (fitting_keyset keyset.now) }
 {
     let keyset = insecure::decode(alloc, keyset)?;
     insecure::new_handle(keyset)
@@ -95,14 +95,14 @@ fn valid_material(alloc: Global, manager: &Manager) -> Result<Keyset, TinkError>
     ensures valid { IfOk result IsValid }
 {
     match material(alloc, manager) {
-        Ok(keyset) => validated(keyset),
+        Ok(keyset) => keyset_if_valid(keyset),
         Err(e) => Err(e),
     }
 }
 
 // A keyset that a handle held, if it is valid.
-fn validated(keyset: Keyset) -> Result<Keyset, TinkError>
-    requires { MayBeHeld keyset }
+fn keyset_if_valid(keyset: Keyset) -> Result<Keyset, TinkError>
+    requires { FitsHandle keyset }
     ensures answer { Answers result (valid_or_refused keyset) }
     ensures valid { IfOk result IsValid }
 {
@@ -115,7 +115,7 @@ fn validated(keyset: Keyset) -> Result<Keyset, TinkError>
 // A copy of a manager's keyset.
 fn material(alloc: Global, manager: &Manager) -> Result<Keyset, TinkError>
     ensures keyset { IfOk result (λ ks. ks ≡ manager.now) }
-    ensures held { IfOk result MayBeHeld }
+    ensures held { IfOk result FitsHandle }
     ensures err { IfErr result (λ e. e ≡ record { kind = OutOfMemory }) }
 {
     let handle = manager.handle(alloc)?;

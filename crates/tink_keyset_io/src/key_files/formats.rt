@@ -1,7 +1,7 @@
 //! The formats of a file of keys.
 
 ghost use Rattle.std.specs.Prelude.{◌≡◌, ◌==◌, ◌||◌, IfOk, IfErr, Ok};
-ghost use Rattle.tink_io.specs.Told.{Answers, Tells, made_of, or_refused};
+ghost use Rattle.tink_io.specs.Answering.{Answers, Tells, made_of, or_refused};
 ghost use Rattle.tink_io.specs.declared.error.Kind.TheVariants.{BadJson, OutOfMemory};
 ghost use Rattle.tink_json.specs.Messages.{keyset as json_keyset, message_of};
 ghost use Rattle.tink_json.specs.Written.{keyset_value, pretty_text};
@@ -48,13 +48,13 @@ pub fn wire_bytes(alloc: Global, file: Vec<u8>) -> Result<Bytes, TinkError>
     ensures { Answers result (wire_of file.items) }
 {
     match check_room(&file) {
-        Ok(()) => spelled(alloc, file),
+        Ok(()) => wire_of_file(alloc, file),
         Err(e) => Err(e),
     }
 }
 
 // The bytes in the wire format of the keyset that a file spells.
-fn spelled(alloc: Global, file: Vec<u8>) -> Result<Bytes, TinkError>
+fn wire_of_file(alloc: Global, file: Vec<u8>) -> Result<Bytes, TinkError>
     ensures { Answers result (wire_by (format_of file.items) file.items) }
 {
     match Format::of_file(&file) {

@@ -1,7 +1,7 @@
 //! The keys of a file as an array of JSON.
 
 ghost use Rattle.std.specs.Prelude.{◌≡◌, ◌==◌, ◌++◌, ◌||◌, OnOk, IfErr, Ok};
-ghost use Rattle.tink_io.specs.Told.{Answers};
+ghost use Rattle.tink_io.specs.Answering.{Answers};
 ghost use Rattle.tink_io.specs.declared.error.Kind.TheVariants.{OutOfMemory};
 ghost use Rattle.tink_keyset_io.specs.ListedJson.{array_of, first_start, key_array, listed_json, members_of, objects_from, prefix_member, primary_member, quoted, quoted_byte, status_member};
 

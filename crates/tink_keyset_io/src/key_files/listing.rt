@@ -1,7 +1,7 @@
 //! The keys of a file, one a line.
 
 ghost use Rattle.std.specs.Prelude.{◌≡◌, ◌==◌, ◌<◌, ◌++◌, ◌&&◌, OnOk, IfErr, map, Ok};
-ghost use Rattle.tink_io.specs.Told.{Answers};
+ghost use Rattle.tink_io.specs.Answering.{Answers};
 ghost use Rattle.tink_io.specs.declared.error.Kind.TheVariants.{OutOfMemory};
 ghost use Rattle.tink_keyset_io.specs.Listed.{key_lines, line_end, line_of, lines_of, listed, prefix_word, printed, shown_byte, short_type, status_word, type_word};
 

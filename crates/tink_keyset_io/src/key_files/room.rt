@@ -1,7 +1,7 @@
 //! How many keys a file may have, so that it is decoded in little memory.
 
 ghost use Rattle.std.specs.Prelude.{◌≡◌, ◌==◌, ◌||◌, ◌+◌, ◌-◌, ◌<◌, ◌^◌, count_by, nat_eq, if◌then◌else◌};
-ghost use Rattle.tink_io.specs.Told.{Tells};
+ghost use Rattle.tink_io.specs.Answering.{Tells};
 ghost use Rattle.tink_keyset_io.specs.Files.{room_of};
 ghost use Rattle.tink_keyset_io.specs.Room.{is_mark, keys_in, room_of_keys, up_to};
 

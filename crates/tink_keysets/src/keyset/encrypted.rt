@@ -2,7 +2,7 @@
 
 ghost use Rattle.std.specs.Prelude.{◌≡◌, ◌≤◌, [], Ok, OnOk, IfOk, IfErr};
 ghost use Rattle.wire_format.specs.Message.{encoded};
-ghost use Rattle.tink_io.specs.Told.{Answers, Replies};
+ghost use Rattle.tink_io.specs.Answering.{Answers, Replies};
 ghost use Rattle.tink_io.specs.declared.error.Kind.TheVariants.{OutOfMemory};
 ghost use Rattle.tink_proto.specs.Messages.{keyset};
 ghost use Rattle.tink_keysets.specs.Encrypted.{decrypted, encrypted, handle_of_bytes};

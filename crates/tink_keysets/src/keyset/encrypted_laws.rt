@@ -4,7 +4,7 @@ ghost use Rattle.std.specs.Prelude.{◌≡◌, ℕ, List, Ok, Err};
 ghost use Rattle.wire_format.specs.Message.{encoded};
 ghost use Rattle.tink_io.specs.declared.error.Kind.{Kind};
 ghost use Rattle.tink_io.specs.declared.error.Kind.TheVariants.{MasterFailed};
-ghost use Rattle.tink_io.specs.Told.{Answers, made_of};
+ghost use Rattle.tink_io.specs.Answering.{Answers, made_of};
 ghost use Rattle.tink_proto.specs.Messages.{keyset};
 ghost use Rattle.tink_keysets.specs.Encrypted.{by_master, MasterUndoes};
 ghost use Rattle.tink_keysets.specs.Through.{LeavesDraws};

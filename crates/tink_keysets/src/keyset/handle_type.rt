@@ -2,11 +2,11 @@
 
 ghost use Rattle.std.specs.Prelude.{◌≡◌, IfOk, IfErr, true, None, Some, option_copied};
 ghost use Rattle.tink_io.specs.declared.error.Kind.TheVariants.{HasSecrets, InvalidKeyset, OutOfMemory};
-ghost use Rattle.tink_io.specs.Told.{Answers, Replies, Tells};
+ghost use Rattle.tink_io.specs.Answering.{Answers, Replies, Tells};
 ghost use Rattle.tink_sets.specs.Entries.{entry_of};
 ghost use Rattle.keyset_model.specs.Adding.{keyset_reply};
 ghost use Rattle.keyset_model.specs.Secrets as secrets;
-ghost use Rattle.keyset_model.specs.Validity.{MayBeHeld};
+ghost use Rattle.keyset_model.specs.Validity.{FitsHandle};
 ghost use Rattle.tink_keyset_rules.specs.ShownTexts.{info_text};
 ghost use Rattle.tink_keysets.specs.Built.{built_entries, GivesSet, IsSetOf};
 ghost use Rattle.tink_keysets.specs.Managed.{added_by, no_keys, public_data, public_keyset};
@@ -32,13 +32,13 @@ pub struct Handle {
 
 impl Model for Handle {
     ghost use Rattle.tink_proto.specs.declared.messages.keys.Keyset.{Keyset};
-    ghost use Rattle.keyset_model.specs.Validity.{MayBeHeld};
+    ghost use Rattle.keyset_model.specs.Validity.{FitsHandle};
 
     ghost Value = { Keyset };
 
     ghost view = { λ h. h.ks };
 
-    ghost invariant = { λ h. MayBeHeld h.ks };
+    ghost invariant = { λ h. FitsHandle h.ks };
 }
 
 impl Handle {
@@ -165,7 +165,7 @@ impl Handle {
 
     // A handle of a keyset that is known to be held.
     pub(crate) fn from_held(ks: Keyset) -> Handle
-        requires { MayBeHeld ks }
+        requires { FitsHandle ks }
         ensures { result ≡ ks }
     {
         Handle { ks }
@@ -173,14 +173,14 @@ impl Handle {
 
     pub(crate) fn into_keyset(self) -> Keyset
         ensures keyset { result ≡ self }
-        ensures held { MayBeHeld result }
+        ensures held { FitsHandle result }
     {
         self.ks
     }
 
     pub(crate) fn keyset(&self) -> &Keyset
         ensures keyset { result.now ≡ self.now }
-        ensures held { MayBeHeld result.now }
+        ensures held { FitsHandle result.now }
     {
         &self.ks
     }

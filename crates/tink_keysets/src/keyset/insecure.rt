@@ -2,10 +2,10 @@
 
 ghost use Rattle.std.specs.Prelude.{◌≡◌, ◌≤◌, IfOk, IfErr, OnOk};
 ghost use Rattle.tink_io.specs.declared.error.Kind.TheVariants.{BadKeyset, OutOfMemory};
-ghost use Rattle.tink_io.specs.Told.{Answers, or_refused, Tells};
+ghost use Rattle.tink_io.specs.Answering.{Answers, or_refused, Tells};
 ghost use Rattle.tink_proto.specs.Messages.{keyset};
 ghost use Rattle.wire_format.specs.Message.{decoded};
-ghost use Rattle.keyset_model.specs.Validity.{IsValid, MayBeHeld};
+ghost use Rattle.keyset_model.specs.Validity.{IsValid, FitsHandle};
 ghost use Rattle.tink_keyset_rules.specs.Ends.{HasWritten};
 ghost use Rattle.tink_keysets.specs.Handles.{handle_of_keys};
 ghost use Rattle.tink_keysets.specs.Through.{GivesBy};
@@ -23,7 +23,7 @@ use tink_proto::{Keyset, Message, ProtoError};
 /// `OutOfMemory` alone.
 pub fn keyset_material(alloc: Global, h: &Handle) -> Result<Keyset, TinkError>
     ensures keyset { IfOk result (λ ks. ks ≡ h.now) }
-    ensures held { IfOk result MayBeHeld }
+    ensures held { IfOk result FitsHandle }
     ensures err { IfErr result (λ e. e ≡ record { kind = OutOfMemory }) }
 {
     copy(alloc, h.keyset())
@@ -53,13 +53,13 @@ pub fn valid_handle(alloc: Global, bytes: &[u8]) -> Result<Handle, TinkError>
     ensures valid { IfOk result IsValid }
 {
     match decode(alloc, bytes) {
-        Ok(keyset) => validated(keyset),
+        Ok(keyset) => handle_if_valid(keyset),
         Err(e) => Err(e),
     }
 }
 
 // A handle of a keyset that is valid.
-fn validated(keyset: Keyset) -> Result<Handle, TinkError>
+fn handle_if_valid(keyset: Keyset) -> Result<Handle, TinkError>
     ensures { Answers result (valid_or_refused keyset) }
 {
     validate(&keyset)?;

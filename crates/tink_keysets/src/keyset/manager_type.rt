@@ -2,11 +2,11 @@
 
 ghost use Rattle.std.specs.Prelude.{◌≡◌, [], length, IfOk, IfErr, OnOk, OnErr, nat_eq, true};
 ghost use Rattle.tink_io.specs.declared.error.Kind.TheVariants.{OutOfMemory};
-ghost use Rattle.tink_io.specs.Told.{Replies};
+ghost use Rattle.tink_io.specs.Answering.{Replies};
 ghost use Rattle.keyset_model.specs.Adding.{reply, IsFresh};
 ghost use Rattle.keyset_model.specs.Edits as edits;
 ghost use Rattle.tink_keysets.specs.Managed.{added_by};
-ghost use Rattle.tink_keysets.specs.Told.{Edits};
+ghost use Rattle.tink_keysets.specs.Editing.{Edits};
 
 use crate::keyset::Handle;
 use keyset_model::places::{
@@ -31,13 +31,13 @@ pub struct Manager {
 
 impl Model for Manager {
     ghost use Rattle.tink_proto.specs.declared.messages.keys.Keyset.{Keyset};
-    ghost use Rattle.keyset_model.specs.Validity.{MayBeHeld};
+    ghost use Rattle.keyset_model.specs.Validity.{FitsHandle};
 
     ghost Value = { Keyset };
 
     ghost view = { λ m. record { primary_key_id = m.primary; key = m.keys.items } };
 
-    ghost invariant = { λ m. MayBeHeld (record { primary_key_id = m.primary; key = m.keys.items }) };
+    ghost invariant = { λ m. FitsHandle (record { primary_key_id = m.primary; key = m.keys.items }) };
 }
 
 impl Manager {

@@ -1,7 +1,7 @@
 //! A MAC by CMAC (SP 800-38B) over AES (FIPS 197).
 
 ghost use Rattle.std.specs.Prelude.{◌≡◌, ◌≤◌, Ok};
-ghost use Rattle.tink_io.specs.Told.{Answers, Tells};
+ghost use Rattle.tink_io.specs.Answering.{Answers, Tells};
 ghost use Rattle.tink_mac.specs.Tags.{cmac_params, cmac_tag, cmac_tags, is_outside, own_tag};
 ghost use Rattle.tink_mac.specs.TagLaws.{own_tag_match};
 

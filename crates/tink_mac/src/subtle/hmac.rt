@@ -2,7 +2,7 @@
 
 ghost use Rattle.std.specs.Prelude.{◌≡◌, ◌↔◌, ◌≤◌, IsTrue, Ok};
 ghost use Rattle.tink_core_subtle.specs.Hashes.{hash_named};
-ghost use Rattle.tink_io.specs.Told.{Answers, Tells};
+ghost use Rattle.tink_io.specs.Answering.{Answers, Tells};
 ghost use Rattle.tink_mac.specs.Tags.{hmac_params, hmac_tag, hmac_tags, own_tag};
 ghost use Rattle.tink_mac.specs.TagLaws.{own_tag_match};
 

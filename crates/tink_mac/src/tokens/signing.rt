@@ -3,7 +3,7 @@
 ghost use Rattle.std.specs.Prelude.{◌≡◌, ◌++◌, ◌∷◌, Ok, List, ℕ, IfOk, IfErr, string_bytes};
 ghost use Rattle.base64.specs.GeneralPurpose.{IsBytes};
 ghost use Rattle.tink_io.specs.declared.error.Kind.TheVariants.{OutOfMemory};
-ghost use Rattle.tink_io.specs.Told.{Answers, made_of};
+ghost use Rattle.tink_io.specs.Answering.{Answers, made_of};
 ghost use Rattle.tink_sets.specs.Groups.{group_of};
 ghost use Rattle.tink_mac.specs.Wrapped.{any_verifies};
 ghost use Rattle.tink_mac.specs.Tokens.{dot, spelled, IsAccepted, IsSigning, IsVerifying};
@@ -52,11 +52,15 @@ pub fn verify<P: Mac>(alloc: Global, mac: &WrappedMac<P>, token: &[u8]) -> Resul
     ensures succeeds { (p : List ℕ) → IsAccepted P.verifies (group_of mac.now.ps.entries) token.now p
         → Answers result (Ok p) }
 {
-    verified(alloc, mac, token)
+    verify_token(alloc, mac, token)
 }
 
 // What `verify` answers. That it succeeds follows from this.
-fn verified<P: Mac>(alloc: Global, mac: &WrappedMac<P>, token: &[u8]) -> Result<Bytes, TinkError>
+fn verify_token<P: Mac>(
+    alloc: Global,
+    mac: &WrappedMac<P>,
+    token: &[u8],
+) -> Result<Bytes, TinkError>
     ensures { IsVerifying P.verifies (group_of mac.now.ps.entries) token.now result }
 {
     let Some((front, back)) = halves(token) else {
@@ -64,11 +68,11 @@ fn verified<P: Mac>(alloc: Global, mac: &WrappedMac<P>, token: &[u8]) -> Result<
     };
     let payload = read(alloc, front)?;
     let tag = read(alloc, back)?;
-    checked(alloc, mac, payload, &tag, front)
+    payload_if_accepted(alloc, mac, payload, &tag, front)
 }
 
 // A payload, where the MAC is accepted for its spelling.
-fn checked<P: Mac>(
+fn payload_if_accepted<P: Mac>(
     alloc: Global,
     mac: &WrappedMac<P>,
     payload: Bytes,

@@ -9,7 +9,7 @@ ghost use Rattle.tink_streaming_io.specs.Sealers as sealers;
 ghost use Rattle.tink_streaming_io.specs.declared.progress.Progress.TheVariants.{Running};
 ghost use Rattle.tink_streaming_io.specs.declared.writing.Mode.TheVariants.{Open};
 ghost use Rattle.tink_run.specs.OpenSteps.{held_outside};
-ghost use Rattle.tink_io.specs.Outside.{FaultsStay, outside_of};
+ghost use Rattle.tink_io.specs.Outside.{FaultsStay, outside};
 ghost use Rattle.tink_run.specs.Run.{LeavesSinkItself};
 ghost use Rattle.tink_rewrap.specs.Passing.{FinishMeans, FitsKeys, IsUnbegun, LeadsUnder, LeadsWithin, OpensWithin};
 ghost use Rattle.tink_rewrap.specs.Passing.{PassMeans, ReaderMeansWithin, anywhere, bytes_by};
@@ -68,11 +68,11 @@ pub fn pass<S: Source, K: Sink, D: SegmentDecrypter + Drop, E: SegmentEncrypter 
         (bytes_by front.now (sealers.segment_map writer.old.sealer) writer.old.sealer.first
         writer.old.sealer.room)
         (held_outside S.left S.faults K.got K.faults reader.old source.old sink.old)
-        (outside_of S.left S.faults K.got K.faults source.new sink.new)
+        (outside S.Source K.Sink source.new sink.new)
         result }
     ensures unwritten { LeavesSinkItself result sink.old sink.new }
-    ensures later { FaultsStay (outside_of S.left S.faults K.got K.faults source.old sink.old)
-        (outside_of S.left S.faults K.got K.faults source.new sink.new) }
+    ensures later { FaultsStay (outside S.Source K.Sink source.old sink.old)
+        (outside S.Source K.Sink source.new sink.new) }
     ensures source { S.same source.old source.new }
     ensures sink { K.same sink.old sink.new }
 {
@@ -80,7 +80,7 @@ pub fn pass<S: Source, K: Sink, D: SegmentDecrypter + Drop, E: SegmentEncrypter 
     front.write(sink)?;
     let mut bytes: u64 = 0;
     loop {
-        let text = reader.opened();
+        let text = reader.plaintext();
         writer.write(sink, text)?;
         bytes += text.len() as u64;
         match reader.progress() {
@@ -118,14 +118,14 @@ pub(crate) fn pass_under<S: Source, K: Sink, T: DerivesStreams>(
         (HasKey (map (λ k. opening.opening_key aad.now (T.key_of k)) keys.now))
         (bytes_by stream.old.front (sealers.segment_map stream.old.writer.sealer) stream.old.writer.sealer.first
         stream.old.writer.sealer.room)
-        (outside_of S.left S.faults K.got K.faults source.old sink.old)
-        (outside_of S.left S.faults K.got K.faults source.new sink.new)
+        (outside S.Source K.Sink source.old sink.old)
+        (outside S.Source K.Sink source.new sink.new)
         result }
     ensures unwritten { LeavesSinkItself result sink.old sink.new }
     ensures begun { LeavesOrBegins (map (λ k. opening.opening_key aad.now (T.key_of k)) keys.now)
-        (outside_of S.left S.faults K.got K.faults source.old sink.old) result sink.old sink.new }
-    ensures later { FaultsStay (outside_of S.left S.faults K.got K.faults source.old sink.old)
-        (outside_of S.left S.faults K.got K.faults source.new sink.new) }
+        (outside S.Source K.Sink source.old sink.old) result sink.old sink.new }
+    ensures later { FaultsStay (outside S.Source K.Sink source.old sink.old)
+        (outside S.Source K.Sink source.new sink.new) }
     ensures source { S.same source.old source.new }
     ensures sink { K.same sink.old sink.new }
 {

@@ -1,7 +1,7 @@
 //! A stream from a keyset to another.
 
 ghost use Rattle.std.specs.Prelude.{◌≡◌, ℕ, List, IfOk, Ok};
-ghost use Rattle.tink_io.specs.Outside.{FaultsStay, outside_of, Told};
+ghost use Rattle.tink_io.specs.Outside.{FaultsStay, outside, AreKnown};
 ghost use Rattle.tink_run.specs.AllKeys.{load};
 ghost use Rattle.tink_run.specs.HeldKeys.{GivesLoaded};
 ghost use Rattle.tink_run.specs.Run.{LeavesEnds, LeavesSinkItself};
@@ -55,39 +55,39 @@ pub fn rewrap<S: Source, K: Sink>(
     ensures answer { RewrapMeans
         (sides from.now from_aad.now to.now to_aad.now)
         draws.old draws.new
-        (outside_of S.left S.faults K.got K.faults source.old sink.old)
-        (outside_of S.left S.faults K.got K.faults source.new sink.new)
+        (outside S.Source K.Sink source.old sink.old)
+        (outside S.Source K.Sink source.new sink.new)
         result }
 
     // Known bytes: the source was exactly a stream of the chosen key of the first keyset, and exactly the
     // stream of its text under the second one's primary key was written.
     ensures rewrapped { IfOk result (λ report. (X G : List ℕ)
-        → Told (outside_of S.left S.faults K.got K.faults source.old sink.old) X G
+        → AreKnown (outside S.Source K.Sink source.old sink.old) X G
         → IsWholeRewrap (sides from.now from_aad.now to.now to_aad.now)
-        draws.old draws.new X G (outside_of S.left S.faults K.got K.faults source.new sink.new) report) }
+        draws.old draws.new X G (outside S.Source K.Sink source.new sink.new) report) }
 
     // Known bytes: where the source is no stream of the chosen key, or the answer is another refusal than
     // WriteFault, no last segment was written.
     ensures unended { LeavesUnended
         (sides from.now from_aad.now to.now to_aad.now)
         draws.old
-        (outside_of S.left S.faults K.got K.faults source.old sink.old)
-        (outside_of S.left S.faults K.got K.faults source.new sink.new)
+        (outside S.Source K.Sink source.old sink.old)
+        (outside S.Source K.Sink source.new sink.new)
         result }
 
     // Known bytes: where neither end fails and the stream can be moved, it is, or there is no memory.
     ensures succeeds { CompletesRewrap
         (sides from.now from_aad.now to.now to_aad.now)
         draws.old
-        (outside_of S.left S.faults K.got K.faults source.old sink.old)
-        (outside_of S.left S.faults K.got K.faults source.new sink.new)
+        (outside S.Source K.Sink source.old sink.old)
+        (outside S.Source K.Sink source.new sink.new)
         result }
 
     // Known bytes: how far the source was read by a refusal.
     ensures read { RewrapReadsNoFurther
         (sides from.now from_aad.now to.now to_aad.now)
-        (outside_of S.left S.faults K.got K.faults source.old sink.old)
-        (outside_of S.left S.faults K.got K.faults source.new sink.new)
+        (outside S.Source K.Sink source.old sink.old)
+        (outside S.Source K.Sink source.new sink.new)
         result }
 
     // An error that comes before anything was read or written leaves the ends themselves as they were.
@@ -97,11 +97,11 @@ pub fn rewrap<S: Source, K: Sink>(
     // After another error a key was chosen, or the sink itself is as it was.
     ensures unwritten { LeavesSinkItself result sink.old sink.new
         × LeavesOrBeginsOf (sides from.now from_aad.now to.now to_aad.now)
-        (outside_of S.left S.faults K.got K.faults source.old sink.old) result sink.old sink.new }
+        (outside S.Source K.Sink source.old sink.old) result sink.old sink.new }
 
     // Whatever the answer, no count of faults fell, and what calls keep of both ends is kept.
-    ensures stays { FaultsStay (outside_of S.left S.faults K.got K.faults source.old sink.old)
-        (outside_of S.left S.faults K.got K.faults source.new sink.new)
+    ensures stays { FaultsStay (outside S.Source K.Sink source.old sink.old)
+        (outside S.Source K.Sink source.new sink.new)
         × S.same source.old source.new × K.same sink.old sink.new }
 {
     answer(alloc, from, from_aad, to, to_aad, draws, source, sink)
@@ -121,17 +121,17 @@ fn answer<S: Source, K: Sink>(
     ensures answer { RewrapMeans
         (sides from.now from_aad.now to.now to_aad.now)
         draws.old draws.new
-        (outside_of S.left S.faults K.got K.faults source.old sink.old)
-        (outside_of S.left S.faults K.got K.faults source.new sink.new)
+        (outside S.Source K.Sink source.old sink.old)
+        (outside S.Source K.Sink source.new sink.new)
         result }
     ensures early { LeavesEnds result source.old source.new sink.old sink.new }
     ensures unwritten { LeavesSinkItself result sink.old sink.new }
     ensures begun { LeavesOrBeginsOf
         (sides from.now from_aad.now to.now to_aad.now)
-        (outside_of S.left S.faults K.got K.faults source.old sink.old)
+        (outside S.Source K.Sink source.old sink.old)
         result sink.old sink.new }
-    ensures later { FaultsStay (outside_of S.left S.faults K.got K.faults source.old sink.old)
-        (outside_of S.left S.faults K.got K.faults source.new sink.new) }
+    ensures later { FaultsStay (outside S.Source K.Sink source.old sink.old)
+        (outside S.Source K.Sink source.new sink.new) }
     ensures source { S.same source.old source.new }
     ensures sink { K.same sink.old sink.new }
 {
@@ -156,18 +156,18 @@ fn answer_by<S: Source, K: Sink>(
         → RewrapMeans
         (sides from from_aad.now to.now to_aad.now)
         draws.old draws.new
-        (outside_of S.left S.faults K.got K.faults source.old sink.old)
-        (outside_of S.left S.faults K.got K.faults source.new sink.new)
+        (outside S.Source K.Sink source.old sink.old)
+        (outside S.Source K.Sink source.new sink.new)
         result }
     ensures early { LeavesEnds result source.old source.new sink.old sink.new }
     ensures unwritten { LeavesSinkItself result sink.old sink.new }
     ensures begun { (from : List ℕ) → GivesLoaded (Ok keys.now) (load from)
         → LeavesOrBeginsOf
         (sides from from_aad.now to.now to_aad.now)
-        (outside_of S.left S.faults K.got K.faults source.old sink.old)
+        (outside S.Source K.Sink source.old sink.old)
         result sink.old sink.new }
-    ensures later { FaultsStay (outside_of S.left S.faults K.got K.faults source.old sink.old)
-        (outside_of S.left S.faults K.got K.faults source.new sink.new) }
+    ensures later { FaultsStay (outside S.Source K.Sink source.old sink.old)
+        (outside S.Source K.Sink source.new sink.new) }
     ensures source { S.same source.old source.new }
     ensures sink { K.same sink.old sink.new }
 {

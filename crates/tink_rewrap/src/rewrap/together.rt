@@ -4,7 +4,7 @@ ghost use Rattle.std.specs.Prelude.{◌≡◌, map, vec_capacity};
 ghost use Rattle.stream_model.specs.Opening as opening;
 ghost use Rattle.tink_streaming_keys.specs.StreamKinds.{key_in_set};
 ghost use Rattle.tink_streaming_aead.specs.Wrapped.{KeepsOrder, all_entries, keys_in};
-ghost use Rattle.tink_io.specs.Outside.{FaultsStay, outside_of};
+ghost use Rattle.tink_io.specs.Outside.{FaultsStay, outside};
 ghost use Rattle.tink_run.specs.Run.{LeavesEnds, LeavesSinkItself};
 ghost use Rattle.tink_rewrap.specs.Rewrapping.{LeavesOrBegins, RewrapEnds};
 
@@ -12,7 +12,7 @@ use crate::rewrap::between::rewrap_between;
 use std::alloc::Global;
 use tink_io::{Draws, Gathered, Sink, Source, TinkError};
 use tink_run::report::Report;
-use tink_run::together::ended;
+use tink_run::together::end_call;
 use tink_sets::{TypedEntry, TypedPrimitiveSet};
 use tink_streaming_keys::StreamKind;
 
@@ -32,17 +32,17 @@ pub(crate) fn rewrap_together<S: Source, K: Sink>(
     ensures answer { RewrapEnds
         (map (opening.opening_key from_aad.now) (keys_in (all_entries from.now.entries)))
         (key_in_set to.now) to_aad.now draws.old draws.new
-        (outside_of S.left S.faults K.got K.faults source.old sink.old)
-        (outside_of S.left S.faults K.got K.faults source.new sink.new)
+        (outside S.Source K.Sink source.old sink.old)
+        (outside S.Source K.Sink source.new sink.new)
         result }
     ensures order { KeepsOrder from.now.entries }
     ensures early { LeavesEnds result source.old source.new sink.old sink.new }
     ensures unwritten { LeavesSinkItself result sink.old sink.new }
     ensures begun { LeavesOrBegins
         (map (opening.opening_key from_aad.now) (keys_in (all_entries from.now.entries)))
-        (outside_of S.left S.faults K.got K.faults source.old sink.old) result sink.old sink.new }
-    ensures later { FaultsStay (outside_of S.left S.faults K.got K.faults source.old sink.old)
-        (outside_of S.left S.faults K.got K.faults source.new sink.new) }
+        (outside S.Source K.Sink source.old sink.old) result sink.old sink.new }
+    ensures later { FaultsStay (outside S.Source K.Sink source.old sink.old)
+        (outside S.Source K.Sink source.new sink.new) }
     ensures source { S.same source.old source.new }
     ensures sink { K.same sink.old sink.new }
 {
@@ -57,5 +57,5 @@ pub(crate) fn rewrap_together<S: Source, K: Sink>(
         source,
         &mut gathered,
     );
-    ended(answer, &mut gathered)
+    end_call(answer, &mut gathered)
 }

@@ -8,5 +8,5 @@ loop-n-preserved c =
     let t = c.loop-n.table in
     let n = c.loop-n.n in (
       length-set t n _ ∙ c.loop-n.invariant.0,
-      below_more _ _ (λ k h. get_or-set_other t n k _ 0 (λ e. absurd (omega arith)) ∙ c.loop-n.invariant.1 k h) (get_or-set_same t n _ 0 (omega arith) ∙ c.joined.ensures),
+      below_more _ _ (λ k h. get_or-set_other t n k _ 0 (λ e. absurd (omega arith)) ∙ c.loop-n.invariant.1 k h) (get_or-set_same t n _ 0 (omega arith) ∙ c.multiple_by_byte.ensures),
     )

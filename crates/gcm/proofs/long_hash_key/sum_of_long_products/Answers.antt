@@ -48,17 +48,17 @@ loop-i-preserved c =
     ap₂ bit_xor c.pair-in-loop-i.ensures c.pair-in-loop-i-2.ensures
     ∙ entries_at p q r s a b e f i c.to_le_bytes-a.result c.to_le_bytes-b.result c.to_le_bytes-c.result c.to_le_bytes-d.result (omega arith) c.to_le_bytes-a.ensures c.to_le_bytes-b.ensures c.to_le_bytes-c.ensures c.to_le_bytes-d.ensures in
     record {
-      room = ap₂ (λ v n. v % 2 ^ n) c.carried-low.ensures next ∙ carried_room high low k (omega arith) room;
+      room = ap₂ (λ v n. v % 2 ^ n) c.carry_of-low.ensures next ∙ carried_room high low k (omega arith) room;
       both =
-          ap (λ v. bit_xor (bit_xor (high / 256) summand) (rest v)) c.carried-low.ensures
+          ap (λ v. bit_xor (bit_xor (high / 256) summand) (rest v)) c.carry_of-low.ensures
           ∙ carry_step high low summand (lowest_eight low k room)
           ∙ ap₂ (λ v w. bit_xor (eight v) w) held.both made
           ∙ entries_step p q r s a b e f (8 * i)
           ∙ ap (sums p q r s a b e f) more;
     }
 
-pub reduced-requires : goal.reduced-requires
-reduced-requires c =
+pub rest_of-requires : goal.rest_of-requires
+rest_of-requires c =
     let e : 8 ≡ 136 - 8 * c.loop-i.i = omega arith in
     ap (λ n. c.loop-i.low % 2 ^ n) e ∙ c.loop-i.invariant.room
 
@@ -66,5 +66,5 @@ pub returns : goal.returns
 returns c =
     let x = c.args.x in
     let e : 8 * c.loop-i.i ≡ 128 = omega arith in
-    ap (bit_xor c.loop-i.high) c.reduced.ensures ∙ c.loop-i.invariant.both
+    ap (bit_xor c.loop-i.high) c.rest_of.ensures ∙ c.loop-i.invariant.both
     ∙ ap (sums c.args.p.now c.args.q.now c.args.r.now c.args.s.now (get_or x 0 0) (get_or x 1 0) (get_or x 2 0) (get_or x 3 0)) e

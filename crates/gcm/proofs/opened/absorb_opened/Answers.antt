@@ -52,5 +52,5 @@ loop-i-preserved g c =
     let xs = c.args.ciphertext.now in
     let i = c.loop-i.i in
     let within : 128 * i < length xs = omega arith in
-    one_more (g.C.BlockCipherEncrypt.encrypts c.args.c.now) (g.K.Products.element c.args.key.now) c.args.y c.loop-i.state c.absorb_part-next.result c.args.block.now c.counted-from.result xs i c.min-n.result
-    (g.met.C.BlockCipherEncrypt.sized c.args.c.now) c.told-block within c.min-n.ensures c.counted-from.ensures c.loop-i.invariant c.absorb_part-next.ensures
+    one_more (g.C.BlockCipherEncrypt.encrypts c.args.c.now) (g.K.Products.element c.args.key.now) c.args.y c.loop-i.state c.absorb_part-next.result c.args.block.now c.counter_after-from.result xs i c.min-n.result
+    (g.met.C.BlockCipherEncrypt.sized c.args.c.now) c.told-block within c.min-n.ensures c.counter_after-from.ensures c.loop-i.invariant c.absorb_part-next.ensures

@@ -9,6 +9,6 @@ unfolding gcm_tag
 returns g c =
     let gcm = c.args.g.now in
     let E = g.C.BlockCipherEncrypt.encrypts gcm.cipher in
-    c.xored.ensures
-    ∙ ap₂ xor_bytes (c.hashed-sum.ensures ∙ ghash_of (E (replicate 16 0)) c.args.aad.now c.args.ciphertext.now gcm.subkey gcm.subkey_of)
+    c.xor_of.ensures
+    ∙ ap₂ xor_bytes (c.hash_of-sum.ensures ∙ ghash_of (E (replicate 16 0)) c.args.aad.now c.args.ciphertext.now gcm.subkey gcm.subkey_of)
     (c.encrypt_block.ensures.value ∙ ap E c.first_block-mask.ensures)

@@ -7,4 +7,4 @@ pub returns : goal.returns
 unfolding tag_under
 returns g c =
     c.encrypt_block.ensures.value
-    ∙ ap (λ (s : List ℕ). g.C.BlockCipherEncrypt.encrypts c.args.c.now (set s 15 (bit_and (get_or s 15 0) 0x7f))) c.xored-tag.ensures
+    ∙ ap (λ (s : List ℕ). g.C.BlockCipherEncrypt.encrypts c.args.c.now (set s 15 (bit_and (get_or s 15 0) 0x7f))) c.xor_of-tag.ensures

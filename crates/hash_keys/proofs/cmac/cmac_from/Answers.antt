@@ -20,5 +20,5 @@ whole E start text chain last mixed out m m_is chain_is last_is mixed_is out_is 
 
 pub returns : goal.returns
 returns g c =
-    whole (g.C.BlockCipherEncrypt.encrypts c.args.c.now) c.args.start c.args.text.now c.chain-block.result c.masked-last.result c.xor_in_place.new.output _ c.saturating_sub-n.result
-    c.saturating_sub-n.ensures c.chain-block.ensures c.masked-last.ensures c.xor_in_place.ensures.value c.encrypt_block.ensures.value
+    whole (g.C.BlockCipherEncrypt.encrypts c.args.c.now) c.args.start c.args.text.now c.chain-block.result c.last_block-last.result c.xor_in_place.new.output _ c.saturating_sub-n.result
+    c.saturating_sub-n.ensures c.chain-block.ensures c.last_block-last.ensures c.xor_in_place.ensures.value c.encrypt_block.ensures.value

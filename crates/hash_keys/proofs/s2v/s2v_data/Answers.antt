@@ -6,4 +6,4 @@ use Rattle.hash_keys.proofs.s2v.s2v_data.Goals as goal
 
 pub returns : goal.returns
 unfolding s2v_data
-returns g c = c.xor_in_place.ensures.value ∙ ap₂ xor_bytes (c.doubled-d.ensures ∙ ap double_block c.cmac_of.ensures) c.cmac_of-code.ensures
+returns g c = c.xor_in_place.ensures.value ∙ ap₂ xor_bytes (c.double_block-d.ensures ∙ ap double_block c.cmac_of.ensures) c.cmac_of-code.ensures

@@ -2,7 +2,7 @@ use Rattle.std.proofs.Common.{inl, ℕ, List, ◌++◌, ap, ap₂, sym, ◌∙�
 use Rattle.std.proofs.lemmas.Result.{err_from_is_err_and}
 use Rattle.tink_primitives.specs.MeaningLaws.{replies_end}
 use Rattle.std.specs.Prelude.{Ok}
-use Rattle.tink_io.specs.Told.{made_of}
+use Rattle.tink_io.specs.Answering.{made_of}
 use Rattle.tink_aead.proofs.factory.encrypt_behind_prefix.Goals as goal
 
 pub returns : goal.returns

@@ -17,5 +17,5 @@ pub returns-in-Ok-encrypt : goal.returns-in-Ok-encrypt
 returns-in-Ok-encrypt g c =
     envelope_last g.M.Family.Aead.Aead.encrypts c.args.plaintext.now c.args.additional_data.now
     (data_key_aead g.M.KeyManager.url g.M.KeyManager.builds c.args.registry.now.managers c.args.kt.now.type_url) c.args.dek.now c.args.encrypted_dek.now c.args.draws.now
-    c.in-Ok.primitive c.in-Ok.ensures c.in-Ok-encrypt.payload c.encrypt.new.draws c.enveloped.result
-    (g.met.M.Family.Aead.Aead.encrypts_told c.in-Ok.primitive c.args.plaintext.now c.args.additional_data.now c.args.draws.now) c.in-Ok-encrypt.ensures.replies c.enveloped.ensures
+    c.in-Ok.primitive c.in-Ok.ensures c.in-Ok-encrypt.payload c.encrypt.new.draws c.envelope_of.result
+    (g.met.M.Family.Aead.Aead.encrypts_told c.in-Ok.primitive c.args.plaintext.now c.args.additional_data.now c.args.draws.now) c.in-Ok-encrypt.ensures.replies c.envelope_of.ensures

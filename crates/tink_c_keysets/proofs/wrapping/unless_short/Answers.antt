@@ -1,5 +1,5 @@
 use Rattle.std.proofs.Common.{ℕ, List, Result, ap, subst}
-use Rattle.tink_io.specs.Told.{Answers}
+use Rattle.tink_io.specs.Answering.{Answers}
 use Rattle.tink_io.specs.declared.error.TinkError.{TinkError}
 use Rattle.tink_c_keysets.specs.Formats.{had_random}
 use Rattle.tink_c_keysets.proofs.Given.{lacked}

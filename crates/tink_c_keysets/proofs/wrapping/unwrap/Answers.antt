@@ -14,6 +14,6 @@ returns-in_err-master c =
 pub returns : goal.returns
 returns c =
     loaded (master_of c.args.master.now) (λ m. unwrapped_file m c.args.wrapped.now c.args.associated_data.now (format_by c.args.json))
-    c.in_ok-master.master c.unwrapped.result c.in_ok-master.ensures
-    (λ m is. by_one (unwrapped_file m c.args.wrapped.now c.args.associated_data.now) c.format_by.result (format_by c.args.json) c.unwrapped.result c.format_by.ensures
-    (c.unwrapped.ensures m is))
+    c.in_ok-master.master c.unwrap_file.result c.in_ok-master.ensures
+    (λ m is. by_one (unwrapped_file m c.args.wrapped.now c.args.associated_data.now) c.format_by.result (format_by c.args.json) c.unwrap_file.result c.format_by.ensures
+    (c.unwrap_file.ensures m is))

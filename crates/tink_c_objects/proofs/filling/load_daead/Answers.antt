@@ -6,4 +6,4 @@ use Rattle.tink_c_objects.proofs.filling.load_daead.Goals as goal
 pub returns : goal.returns
 returns c =
     let k = c.in_ok-daeads.ensures in
-    loaded IsDaead Daead (daeads_of c.args.file.now) k.0 c.in_ok-daeads.daeads c.boxed.result k.1 k.2 c.boxed.ensures.ok c.boxed.ensures.err
+    loaded IsDaead Daead (daeads_of c.args.file.now) k.0 c.in_ok-daeads.daeads c.box_object.result k.1 k.2 c.box_object.ensures.ok c.box_object.ensures.err

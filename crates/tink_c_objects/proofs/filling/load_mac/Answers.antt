@@ -7,4 +7,4 @@ use Rattle.tink_c_objects.proofs.filling.load_mac.Goals as goal
 pub returns : goal.returns
 returns c =
     let k = c.in_ok-macs.ensures in
-    loaded AreLoadedMacs Mac (macs_of_file c.args.file.now) k.0 c.in_ok-macs.macs c.boxed.result k.1 k.2 c.boxed.ensures.ok c.boxed.ensures.err
+    loaded AreLoadedMacs Mac (macs_of_file c.args.file.now) k.0 c.in_ok-macs.macs c.box_object.result k.1 k.2 c.box_object.ensures.ok c.box_object.ensures.err

@@ -6,4 +6,4 @@ use Rattle.tink_c_objects.proofs.filling.load_prfs.Goals as goal
 pub returns : goal.returns
 returns c =
     let k = c.in_ok-prfs.ensures in
-    loaded ArePrfs Prfs (prfs_of_file c.args.file.now) k.0 c.in_ok-prfs.prfs c.boxed.result k.1 k.2 c.boxed.ensures.ok c.boxed.ensures.err
+    loaded ArePrfs Prfs (prfs_of_file c.args.file.now) k.0 c.in_ok-prfs.prfs c.box_object.result k.1 k.2 c.box_object.ensures.ok c.box_object.ensures.err

@@ -10,4 +10,4 @@ returns-in_err-writer c =
 
 pub returns : goal.returns
 returns c =
-    boxed_writer c.args.file.now c.args.associated_data.now c.args.random.now (Writer c.in_ok-writer.writer) c.boxed.result c.in_ok-writer.ensures c.boxed.ensures.ok c.boxed.ensures.err
+    boxed_writer c.args.file.now c.args.associated_data.now c.args.random.now (Writer c.in_ok-writer.writer) c.box_object.result c.in_ok-writer.ensures c.box_object.ensures.ok c.box_object.ensures.err

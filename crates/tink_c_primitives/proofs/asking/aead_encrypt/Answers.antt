@@ -1,6 +1,6 @@
 use Rattle.std.proofs.Common.{ℕ, List, Result, ap, subst}
 use Rattle.std.proofs.lemmas.Result.{err_from_is_err_and}
-use Rattle.tink_io.specs.Told.{Answers}
+use Rattle.tink_io.specs.Answering.{Answers}
 use Rattle.tink_io.specs.declared.error.Kind.{Kind}
 use Rattle.tink_sets.specs.Entries.{entry_of_id}
 use Rattle.tink_aead.specs.AeadKinds.{kind_encrypts}

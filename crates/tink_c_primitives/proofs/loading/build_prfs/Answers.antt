@@ -1,5 +1,5 @@
 use Rattle.std.specs.Prelude.{None}
-use Rattle.tink_io.specs.Told.{and_then}
+use Rattle.tink_io.specs.Answering.{and_then}
 use Rattle.tink_keysets.specs.Built.{built_entries}
 use Rattle.tink_sets.specs.Entries.{entry_of}
 use Rattle.tink_prf.specs.Sets.{HasPrfs, prfs_of}

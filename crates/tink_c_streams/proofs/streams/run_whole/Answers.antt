@@ -13,4 +13,4 @@ returns-in_err-wire c =
 pub returns : goal.returns
 returns c =
     read c.args.file.now (λ wire. Writes (Ran c.args.command wire c.args.associated_data.now c.args.random.now c.args.input.now))
-    (λ wire. WritesNot (RanNot c.args.command wire c.args.associated_data.now c.args.random.now c.args.input.now)) c.as_slice.result.now c.ran.result (c.in_ok-wire.ensures ∙ ap (λ (x : List ℕ). Ok x) (sym c.as_slice.ensures)) c.ran.ensures
+    (λ wire. WritesNot (RanNot c.args.command wire c.args.associated_data.now c.args.random.now c.args.input.now)) c.as_slice.result.now c.run_in_wire.result (c.in_ok-wire.ensures ∙ ap (λ (x : List ℕ). Ok x) (sym c.as_slice.ensures)) c.run_in_wire.ensures

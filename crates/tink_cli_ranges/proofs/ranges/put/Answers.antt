@@ -6,5 +6,5 @@ pub returns-clause-done : goal.returns-clause-done
 returns-clause-done g c =
     let e = ends_of g.Y.Object.ReadAt.bytes g.Y.Object.ReadAt.faults c.args.object.now c.run_range-answer.new.object c.args.sink.now c.run_range-answer.new.sink in
     slice_written g.K.Sink.got g.K.Sink.faults c.args.keyset.now c.args.job.now.aad.now _ c.args.start c.args.length c.args.object.now c.run_range-answer.new.object e
-    c.run_range-answer.result _ c.ended.result (g.met.Y.Object.ReadAt.told c.args.object.now) c.run_range-answer.ensures.answer
-    c.run_range-answer.ensures.slice c.ended.ensures.refused
+    c.run_range-answer.result _ c.end_range.result (g.met.Y.Object.ReadAt.told c.args.object.now) c.run_range-answer.ensures.answer
+    c.run_range-answer.ensures.slice c.end_range.ensures.refused

@@ -1,6 +1,6 @@
 use Rattle.std.proofs.Common.{List, ℕ}
 use Rattle.std.specs.Prelude.{IfOk, Err}
-use Rattle.tink_io.specs.Outside.{Told, outside_of}
+use Rattle.tink_io.specs.Outside.{AreKnown, outside_of}
 use Rattle.tink_cli_files.specs.declared.tasks.Task.{Task}
 use Rattle.tink_cli_streams.specs.Fitting.{FittingMeans, IsDoneFitting}
 use Rattle.tink_cli_streams.proofs.FittingLemmas.{of_signing, put_done, put_means}
@@ -18,7 +18,7 @@ pub returns-in-Ok-clause-ok : goal.returns-in-Ok-clause-ok
 returns-in-Ok-clause-ok g c =
     let old = outside_of g.S.Source.left g.S.Source.faults g.K.Sink.got g.K.Sink.faults c.args.source.now c.args.sink.now in
     let new = outside_of g.S.Source.left g.S.Source.faults g.K.Sink.got g.K.Sink.faults c.held_token.new.source c.put_token.new.sink in
-    of_signing (λ (task : Task). IfOk c.put_token.result (λ report. (T G : List ℕ) → Told old T G
+    of_signing (λ (task : Task). IfOk c.put_token.result (λ report. (T G : List ℕ) → AreKnown old T G
     → IsDoneFitting task c.args.keyset.now c.args.aad.now c.args.draws.now c.held_token.new.draws T G new report)) c.args.task c.requires
     (put_done c.args.keyset.now c.args.aad.now c.args.draws.now c.held_token.new.draws _ _ _ _ _ _ _ _ _ (c.in-Ok.ensures.held old.got old.write_faults)
     c.put_token.result c.put_token.ensures.none c.put_token.ensures.written)

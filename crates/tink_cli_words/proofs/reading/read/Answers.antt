@@ -58,4 +58,4 @@ returns c =
     let t = c.words.texts in
     let action = c.args.action in
     let left = at_drop_all (λ l. read_on action t (byte_words l)) words i c.words-test.false in
-    c.ended.ensures ∙ sym (all_read action t) ∙ sym left ∙ c.words.invariant
+    c.finish.ensures ∙ sym (all_read action t) ∙ sym left ∙ c.words.invariant

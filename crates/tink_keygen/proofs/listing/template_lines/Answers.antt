@@ -1,5 +1,5 @@
 use Rattle.std.proofs.Common.{Ok, ap, subst, ◌∙◌}
-use Rattle.tink_io.specs.Told.{Answers}
+use Rattle.tink_io.specs.Answering.{Answers}
 use Rattle.tink.specs.declared.managers.Managers.{Managers}
 use Rattle.tink_registry.specs.Listed.{names_of, Registered}
 use Rattle.tink_keygen.specs.TemplateLines.{lines_of, template_lines}

@@ -16,7 +16,7 @@ returns-clause-measured c =
     let made = c.new-source.ensures in
     let started = c.start_reading-reader.ensures in
     let opened = c.open_all-text.ensures in
-    let done = c.measured.ensures in
+    let done = c.into_measures.ensures in
     let number = started.same.number ∙ made.number in
     let whole = read_whole c.args.n c.args.draws.now c.new-source.result c.open_all-text.new.source (Passed-trans _ _ _ started.same opened.same) (made.left ∙ b.stream c.args.n) opened.end made.count made.hash in
     record {

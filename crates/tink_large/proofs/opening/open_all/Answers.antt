@@ -21,7 +21,7 @@ overflow_add-bytes c =
     let after : ReaderMoment = reader_moment (λ s. Some (stream_left s)) (λ _. 0) c.open_next.new.self c.open_next.new.source in
     let next = rw inv.opener at c.in-Ok.ensures.answer in
     let r = remains_next (segment_map o) o.first o.size o.overhead before after c.segments.bytes (length (large_text n)) (chunk_count large_key (large_text n)) (cipher_longer o.decrypter o.prefix.items o.nonce_size o.overhead o.overhead_is) inv.remains next in
-    omega (arith, r.bytes_are, ap length c.opened.ensures, length-large_text n, c.requires.number)
+    omega (arith, r.bytes_are, ap length c.plaintext.ensures, length-large_text n, c.requires.number)
 
 pub segments-preserved : goal.segments-preserved
 segments-preserved c =
@@ -33,7 +33,7 @@ segments-preserved c =
     let next = rw inv.opener at c.in-Ok.ensures.answer in
     let r = remains_next (segment_map o) o.first o.size o.overhead before after c.segments.bytes (length (large_text n)) (chunk_count large_key (large_text n)) (cipher_longer o.decrypter o.prefix.items o.nonce_size o.overhead o.overhead_is) inv.remains next in
     record {
-      remains = subst (λ (k : ℕ). AllRemains (segment_map o) o.first o.size after.number after.rest (c.segments.bytes + k) n) (ap length (sym c.opened.ensures)) r;
+      remains = subst (λ (k : ℕ). AllRemains (segment_map o) o.first o.size after.number after.rest (c.segments.bytes + k) n) (ap length (sym c.plaintext.ensures)) r;
       opener = c.open_next.ensures.opener ∙ inv.opener;
       lives = next.lives;
       ends = next.ends;

@@ -34,12 +34,12 @@ pub returns-in_err-write_all : goal.returns-in_err-write_all
 returns-in_err-write_all g c = record {
   answer = (let p = err_from_is_err_and c.from_residual-in_err-write_all.result c.from_residual-in_err-write_all.ensures.1 in
       rw (p.1, p.2, c.in_err-write_all.ensures.refused)
-      (write_failed _ _ _ _ _ _ _ _ _ c.loop-bytes.invariant.reading (rw c.opened-text.ensures at c.in_err-write_all.ensures.prefix) c.loop-bytes.invariant.writes c.in_err-write_all.ensures.cause));
+      (write_failed _ _ _ _ _ _ _ _ _ c.loop-bytes.invariant.reading (rw c.plaintext-text.ensures at c.in_err-write_all.ensures.prefix) c.loop-bytes.invariant.writes c.in_err-write_all.ensures.cause));
   read = (let p = err_from_is_err_and c.from_residual-in_err-write_all.result c.from_residual-in_err-write_all.ensures.1 in
       let opener = c.args.reader.now.opener in
       let reader = c.loop-bytes.reader in
       rw (p.1, p.2, c.in_err-write_all.ensures.refused)
-      (write_reads _ _ _ _ _ _ _ _ _ (some_first opener.some) (lt_of_lt_of_le (some_first opener.some) opener.first_fits) c.loop-bytes.invariant.reading (rw c.opened-text.ensures at c.in_err-write_all.ensures.prefix)
+      (write_reads _ _ _ _ _ _ _ _ _ (some_first opener.some) (lt_of_lt_of_le (some_first opener.some) opener.first_fits) c.loop-bytes.invariant.reading (rw c.plaintext-text.ensures at c.in_err-write_all.ensures.prefix)
       (reads_held _ reader.filled _ _ reader.buffer.items (Keeps-refl _) (le_trans reader.filled_in (le_of_eq c.loop-bytes.invariant.room)))));
   unwritten = search rules;
   later = record { reads = c.loop-bytes.invariant.reads; writes = le_trans c.loop-bytes.invariant.writes c.in_err-write_all.ensures.later };
@@ -61,8 +61,8 @@ loop-bytes-init g c = record {
 pub returns-in-Ended : goal.returns-in-Ended
 returns-in-Ended g c = record {
   answer = (let reader = c.loop-bytes.reader in
-      read_out _ _ _ _ _ _ _ _ (take reader.filled reader.buffer.items) _ c.loop-bytes.invariant.reading (rw c.opened-text.ensures at c.in_ok-write_all.ensures.written)
-      (sym c.in-Ended.ensures) refl c.segments.ensures (omega (arith, ap length c.opened-text.ensures)));
+      read_out _ _ _ _ _ _ _ _ (take reader.filled reader.buffer.items) _ c.loop-bytes.invariant.reading (rw c.plaintext-text.ensures at c.in_ok-write_all.ensures.written)
+      (sym c.in-Ended.ensures) refl c.segments.ensures (omega (arith, ap length c.plaintext-text.ensures)));
   read = tt;
   unwritten = tt;
   later = record { reads = c.loop-bytes.invariant.reads; writes = le_trans c.loop-bytes.invariant.writes c.in_ok-write_all.ensures.later };
@@ -74,7 +74,7 @@ pub loop-bytes-preserved : goal.loop-bytes-preserved
 loop-bytes-preserved g c =
     let next = rw c.loop-bytes.invariant.opener at c.in_ok-open_next-in_default.ensures.answer in
     record {
-      reading = rw c.opened-text.ensures (reading_next _ _ _ _ _ _ _ _ _ _ c.loop-bytes.invariant.reading (rw c.opened-text.ensures at c.in_ok-write_all.ensures.written) next
+      reading = rw c.plaintext-text.ensures (reading_next _ _ _ _ _ _ _ _ _ _ c.loop-bytes.invariant.reading (rw c.plaintext-text.ensures at c.in_ok-write_all.ensures.written) next
           (omega (arith, c.open_next.ensures.small, c.open_next.new.self.opened.ok.0)));
       opener = c.open_next.ensures.opener ∙ c.loop-bytes.invariant.opener;
       room = c.open_next.ensures.room ∙ c.loop-bytes.invariant.room;
@@ -98,9 +98,9 @@ returns-in_err-open_next-in_default g c =
     let new : Outside = record { left = g.S.Source.left c.open_next.new.source; read_faults = g.S.Source.faults c.open_next.new.source; got = g.K.Sink.got c.write_all.new.sink; write_faults = g.K.Sink.faults c.write_all.new.sink } in
     let kind = c.in_err-open_next-in_default.field-0.0.kind in
     record {
-      answer = rw (p.1, p.2) (next_refused _ _ _ _ old new _ m n _ kind (some_first opener.some) (lt_of_lt_of_le (some_first opener.some) opener.first_fits) c.loop-bytes.invariant.reading (rw c.opened-text.ensures at c.in_ok-write_all.ensures.written)
+      answer = rw (p.1, p.2) (next_refused _ _ _ _ old new _ m n _ kind (some_first opener.some) (lt_of_lt_of_le (some_first opener.some) opener.first_fits) c.loop-bytes.invariant.reading (rw c.plaintext-text.ensures at c.in_ok-write_all.ensures.written)
           c.loop-bytes.invariant.reads (le_refl _) refused);
-      read = rw (p.1, p.2) (next_reads _ _ _ _ _ old new _ m n _ kind (some_first opener.some) (lt_of_lt_of_le (some_first opener.some) opener.first_fits) c.loop-bytes.invariant.reading (rw c.opened-text.ensures at c.in_ok-write_all.ensures.written)
+      read = rw (p.1, p.2) (next_reads _ _ _ _ _ old new _ m n _ kind (some_first opener.some) (lt_of_lt_of_le (some_first opener.some) opener.first_fits) c.loop-bytes.invariant.reading (rw c.plaintext-text.ensures at c.in_ok-write_all.ensures.written)
           reader.filled reader.buffer.items (Keeps-refl _) (le_trans reader.filled_in (le_of_eq (c.open_next.ensures.room ∙ c.loop-bytes.invariant.room))) (rw c.loop-bytes.invariant.opener at c.in_err-open_next-in_default.ensures.short) refused);
       unwritten = rw (p.1, p.2) (next_wrote _ _ _ _ m n _ _ _ c.in_err-open_next-in_default.ensures.answer);
       later = record { reads = le_trans c.loop-bytes.invariant.reads c.open_next.ensures.later; writes = le_trans c.loop-bytes.invariant.writes c.write_all.ensures.later };
@@ -111,7 +111,7 @@ returns-in_err-open_next-in_default g c =
 pub overflow_add-bytes : goal.overflow_add-bytes
 overflow_add-bytes g c =
     let reading = c.loop-bytes.invariant.reading in
-    omega (arith, reading.few, reading.small, reading.opened.number, length-append reading.texts (c.loop-bytes.reader.opened.items ∷ []), c.loop-bytes.reader.few, ap length c.opened-text.ensures)
+    omega (arith, reading.few, reading.small, reading.opened.number, length-append reading.texts (c.loop-bytes.reader.opened.items ∷ []), c.loop-bytes.reader.few, ap length c.plaintext-text.ensures)
 
 pub open_next-requires : goal.open_next-requires
 open_next-requires g c = record { running = still_running c.loop-bytes.reader.progress c.loop-bytes.invariant.reading.lives (λ ended. c.in_default.not-Ended (c.progress.ensures ∙ ended)) }

@@ -2,7 +2,7 @@ use Rattle.std.proofs.Common.{◌∙◌, ◌+◌, List, drop, inl, inr, ap, subs
 use Rattle.std.specs.Prelude.{IsTrue}
 use Rattle.std.specs.List.{list_all}
 use Rattle.tink_proto.specs.declared.messages.keys.Key.{Key}
-use Rattle.keyset_model.specs.Validity.{is_held}
+use Rattle.keyset_model.specs.Validity.{fits_handle}
 use Rattle.keyset_model.proofs.EditLaws.{held_more}
 use Rattle.tink_set_builder.specs.Given.{given_each}
 use Rattle.tink_set_builder.specs.PublicParts.{public_data, with_data}
@@ -15,7 +15,7 @@ loop-key-preserved g c =
       c.loop-key.invariant.0
           ∙ one_more give c.args.keys.now c.loop-key.key-index c.key-item.result c.loop-key.public c.in-Ok.more c.loop-key-test.true c.key-item.is c.in-Ok.ensures.answer
           ∙ ap (λ (ks : List Key). behind ks (given_each give (drop (c.loop-key.key-index + 1) c.args.keys.now))) (sym c.in_ok-push-in-Ok.ensures.ok),
-      subst (λ (ks : List Key). IsTrue (list_all is_held ks)) (sym c.in_ok-push-in-Ok.ensures.ok)
+      subst (λ (ks : List Key). IsTrue (list_all fits_handle ks)) (sym c.in_ok-push-in-Ok.ensures.ok)
           (held_more c.loop-key.public c.in-Ok.more c.in-Ok.ensures.held c.loop-key.invariant.1),
     )
 

@@ -1,6 +1,6 @@
 use Rattle.std.proofs.Common.{◌++◌, Ok, inl, inr, ap, ◌∙◌}
 use Rattle.std.proofs.lemmas.List.{append-nil, drop_all}
-use Rattle.tink_io.specs.Told.{made_of}
+use Rattle.tink_io.specs.Answering.{made_of}
 use Rattle.tink_set_groups.specs.Converting.{converted}
 use Rattle.tink_set_groups.proofs.Converted.{stopped, went_on}
 use Rattle.tink_set_groups.proofs.converting.convert_list.Goals as goal

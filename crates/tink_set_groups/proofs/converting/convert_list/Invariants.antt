@@ -1,5 +1,5 @@
 use Rattle.std.proofs.Common.{◌≡◌, ◌++◌, drop}
-use Rattle.tink_io.specs.Told.{made_of}
+use Rattle.tink_io.specs.Answering.{made_of}
 use Rattle.tink_set_groups.specs.Converting.{converted}
 use Rattle.tink_set_groups.proofs.converting.convert_list.Given as goal
 

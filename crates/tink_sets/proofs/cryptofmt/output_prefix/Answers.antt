@@ -1,6 +1,6 @@
 use Rattle.std.proofs.Common.{◌≡◌, Ok, rules, subst, sym}
 use Rattle.keyset_model.specs.Entries.{byte_and_id}
-use Rattle.tink_io.specs.Told.{Answers}
+use Rattle.tink_io.specs.Answering.{Answers}
 use Rattle.tink_sets.specs.Prefixes.{told_prefix}
 use Rattle.tink_sets.proofs.cryptofmt.output_prefix.Goals as goal
 

@@ -1,7 +1,7 @@
 use Rattle.std.proofs.Common.{◌≡◌, Bool, true, cond, Err, rules, subst, sym}
 use Rattle.keyset_model.specs.Keys.{is_enabled}
 use Rattle.tink_io.specs.declared.error.Kind.TheVariants.{NotEnabled}
-use Rattle.tink_io.specs.Told.{Answers}
+use Rattle.tink_io.specs.Answering.{Answers}
 use Rattle.tink_sets.specs.Prefixes.{told_prefix}
 use Rattle.tink_sets.proofs.entry.standing_prefix.Goals as goal
 

@@ -1,5 +1,5 @@
 use Rattle.std.proofs.Common.{◌∙◌, List, ℕ, Ok, ap, subst, sym, inl, inr}
-use Rattle.tink_io.specs.Told.{Tells, made_of}
+use Rattle.tink_io.specs.Answering.{Tells, made_of}
 use Rattle.tink_sets.specs.Entries.{with_primitive}
 use Rattle.tink_sets.proofs.BesideFacts.{made, refused}
 use Rattle.tink_sets.proofs.sorts.typed_entry.Goals as goal

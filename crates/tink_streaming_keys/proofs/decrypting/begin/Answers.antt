@@ -16,8 +16,8 @@ returns-clause-answer g c =
     let n = c.header_length-size.result in
     let salt : n - 7 - 1 ≡ k.derived = omega (arith, c.header_length-size.ensures.value) in
     let s = c.opener_of-opener.ensures in
-    let made = c.made.ensures in
-    let reader = c.made.result in
+    let made = c.from_parts.ensures in
+    let reader = c.from_parts.result in
     new_reader k c.args.aad.now (g.S.Source.left c.args.source.now) (g.S.Source.left c.read_header.new.source) (take n c.in_ok-header.header) (n - 7 - 1) c.in_ok-cipher.cipher
     reader.opener.decrypter reader.opener.nonce_size reader.opener.prefix.items reader.opener.first reader.opener.size reader.opener.overhead (take reader.filled reader.buffer.items)
     (record {
@@ -67,8 +67,8 @@ returns-in_err-cipher-clause-later g c = c.in_ok-header.ensures.later
 pub returns-in_err-cipher-clause-same : goal.returns-in_err-cipher-clause-same
 returns-in_err-cipher-clause-same g c = c.in_ok-header.ensures.same
 
-pub made-requires-clause-room : goal.made-requires-clause-room
-made-requires-clause-room g c =
+pub from_parts-requires-clause-room : goal.from_parts-requires-clause-room
+from_parts-requires-clause-room g c =
     let m = c.in_ok-memory.ensures in
     let s = c.opener_of-opener.ensures.sizes in
     record {
@@ -79,7 +79,7 @@ made-requires-clause-room g c =
     }
 
 pub returns-clause-memory : goal.returns-clause-memory
-returns-clause-memory g c = omega (arith, c.made.ensures.memory, c.opener_of-opener.ensures.room, c.in_ok-memory.ensures.text.1, c.in_ok-memory.ensures.sealed.1, c.in_ok-memory.ensures.nonce.1, c.in_ok-memory.ensures.prefix)
+returns-clause-memory g c = omega (arith, c.from_parts.ensures.memory, c.opener_of-opener.ensures.room, c.in_ok-memory.ensures.text.1, c.in_ok-memory.ensures.sealed.1, c.in_ok-memory.ensures.nonce.1, c.in_ok-memory.ensures.prefix)
 
 pub returns-clause-later : goal.returns-clause-later
 returns-clause-later g c = c.in_ok-header.ensures.later

@@ -21,9 +21,9 @@ returns-clause-answer g c =
     let drew = drew_header k c.args.draws.now c.draw_header.new.draws d.random_fault.1 d.rest in
     let salt : n - 7 - 1 ≡ k.derived = omega arith in
     let s = c.sealer_of-sealer.ensures in
-    let made = c.made.ensures in
+    let made = c.from_parts.ensures in
     prepared k c.args.aad.now c.args.draws.now c.draw_header.new.draws c.in_ok-header.header n (n - 7 - 1) c.in_ok-cipher.cipher drew c.output_prefix.result.now c.output_prefix.ensures size (rw size d.ok) salt c.in_ok-cipher.ensures
-    c.made.result.sealer.encrypter c.made.result.sealer.nonce_size c.made.result.sealer.prefix.items c.made.result.sealer.first c.made.result.sealer.room c.made.result.mode c.made.result.segments (held_text c.made.result)
+    c.from_parts.result.sealer.encrypter c.from_parts.result.sealer.nonce_size c.from_parts.result.sealer.prefix.items c.from_parts.result.sealer.first c.from_parts.result.sealer.room c.from_parts.result.mode c.from_parts.result.segments (held_text c.from_parts.result)
     (ap (λ x. x.encrypter) made.sealer ∙ s.encrypter) (ap (λ x. x.nonce_size) made.sealer ∙ s.sizes.nonce_is) (ap (λ x. x.prefix.items) made.sealer ∙ s.prefix)
     (ap (λ x. x.first) made.sealer ∙ s.sizes.first_is) (ap (λ x. x.room) made.sealer ∙ s.sizes.later_is)
     made.mode made.segments made.held
@@ -46,8 +46,8 @@ returns-in_err-header-clause-memory g c = let p = err_from_is_err_and c.from_res
 pub returns-in_err-cipher-clause-memory : goal.returns-in_err-cipher-clause-memory
 returns-in_err-cipher-clause-memory g c = let p = err_from_is_err_and c.from_residual-in_err-cipher.result c.from_residual-in_err-cipher.ensures.1 in rw p.1 tt
 
-pub made-requires-clause-nonce_room : goal.made-requires-clause-nonce_room
-made-requires-clause-nonce_room g c = c.in_ok-memory.ensures.nonce.0 ∙ sym c.sealer_of-sealer.ensures.sizes.nonce_is
+pub from_parts-requires-clause-nonce_room : goal.from_parts-requires-clause-nonce_room
+from_parts-requires-clause-nonce_room g c = c.in_ok-memory.ensures.nonce.0 ∙ sym c.sealer_of-sealer.ensures.sizes.nonce_is
 
 pub returns-clause-memory : goal.returns-clause-memory
-returns-clause-memory g c = omega (arith, c.made.ensures.memory, c.sealer_of-sealer.ensures.capacity, c.in_ok-memory.ensures.segment.1, c.in_ok-memory.ensures.nonce.1, c.in_ok-memory.ensures.prefix)
+returns-clause-memory g c = omega (arith, c.from_parts.ensures.memory, c.sealer_of-sealer.ensures.capacity, c.in_ok-memory.ensures.segment.1, c.in_ok-memory.ensures.nonce.1, c.in_ok-memory.ensures.prefix)

@@ -12,7 +12,7 @@ returns-in-Ok-Some-clause-started g c =
     let kept = c.choose.new.kept in
     let chosen = rw c.in-Ok-Some.field-0-is at c.in-Ok-Some.ensures.answer in
     let held : begun.front ≤ length (take kept.filled kept.buffer.items) = omega (arith, chosen.front, kept.filled_in, kept.buffer.ok.0, length-take kept.filled kept.buffer.items) in
-    rw c.made.ensures.opener (started _ _ begun.front o.first o.size o.overhead _ _ (take kept.filled kept.buffer.items) _ chosen.found chosen.rest held (c.made.ensures.held ∙ c.carry.ensures.bytes))
+    rw c.from_parts.ensures.opener (started _ _ begun.front o.first o.size o.overhead _ _ (take kept.filled kept.buffer.items) _ chosen.found chosen.rest held (c.from_parts.ensures.held ∙ c.carry.ensures.bytes))
 
 pub returns-in-Err-clause-refused : goal.returns-in-Err-clause-refused
 returns-in-Err-clause-refused g c = rw c.new.ensures c.in-Err.ensures.failed.rose
@@ -21,7 +21,7 @@ pub returns-in-Ok-None-clause-read : goal.returns-in-Ok-None-clause-read
 returns-in-Ok-None-clause-read g c = (c.choose.ensures.read, tt)
 
 pub returns-in-Ok-Some-clause-fresh : goal.returns-in-Ok-Some-clause-fresh
-returns-in-Ok-Some-clause-fresh g c = (c.made.ensures.progress, c.made.ensures.segments, c.made.ensures.opened, c.made.ensures.room ∙ c.carry.ensures.len ∙ c.choose.ensures.room.len)
+returns-in-Ok-Some-clause-fresh g c = (c.from_parts.ensures.progress, c.from_parts.ensures.segments, c.from_parts.ensures.opened, c.from_parts.ensures.room ∙ c.carry.ensures.len ∙ c.choose.ensures.room.len)
 
 pub returns-in-Ok-Some-clause-refused : goal.returns-in-Ok-Some-clause-refused
 returns-in-Ok-Some-clause-refused g c = tt
@@ -33,8 +33,8 @@ returns-in-Ok-Some-clause-read g c =
     let old = c.args.trial.kept in
     let kept = c.choose.new.kept in
     let room = c.choose.ensures.room in
-    let made = c.made.ensures in
-    let r = c.made.result in
+    let made = c.from_parts.ensures in
+    let r = c.from_parts.result in
     let chosen = rw c.in-Ok-Some.field-0-is at c.in-Ok-Some.ensures.answer in
     let all : List ℕ = take kept.filled kept.buffer.items in
     let held : length (held_bytes r) ≡ kept.filled - begun.front = ap length (made.held ∙ c.carry.ensures.bytes) ∙ length-drop begun.front all ∙ ap (λ n. n - begun.front) (omega (arith, kept.filled_in, kept.buffer.ok.0, length-take kept.filled kept.buffer.items)) in

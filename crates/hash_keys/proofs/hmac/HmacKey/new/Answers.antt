@@ -17,8 +17,8 @@ returns c =
     let size = block_size h in
     let key = block_key (hash_of h) size c.args.key.now in
     let block = c.key_block-block.result in
-    let inner_pad = front_padded c.block_size-size.result size 0x36 key block c.padded-inner_pad.result c.block_size-size.ensures.value c.padded-inner_pad.ensures c.key_block-block.ensures in
-    let outer_pad = front_padded c.block_size-size.result size 0x5c key block c.padded-outer_pad.result c.block_size-size.ensures.value c.padded-outer_pad.ensures c.key_block-block.ensures in
+    let inner_pad = front_padded c.block_size-size.result size 0x36 key block c.xor_byte-inner_pad.result c.block_size-size.ensures.value c.xor_byte-inner_pad.ensures c.key_block-block.ensures in
+    let outer_pad = front_padded c.block_size-size.result size 0x5c key block c.xor_byte-outer_pad.result c.block_size-size.ensures.value c.xor_byte-outer_pad.ensures c.key_block-block.ensures in
     record {
       of_key = record {
         named = refl;

@@ -1,6 +1,6 @@
 use Rattle.std.proofs.Common.{List, ℕ, [], subst}
 use Rattle.std.specs.Prelude.{Ok, Err}
-use Rattle.tink_io.specs.Told.{Replies}
+use Rattle.tink_io.specs.Answering.{Replies}
 use Rattle.tink_registry.specs.Listed.{registry_makes}
 use Rattle.tink_aead.specs.Envelope.{data_key_aead}
 use Rattle.tink_registry.specs.ListedLaws.{registry_makes_told}

@@ -1,6 +1,6 @@
 use Rattle.std.proofs.Common.{ℕ, List, refl, subst, ◌∙◌, arith}
 use Rattle.std.specs.Prelude.{Result}
-use Rattle.tink_io.specs.Told.{Replies}
+use Rattle.tink_io.specs.Answering.{Replies}
 use Rattle.tink_io.specs.declared.error.Kind.{Kind}
 use Rattle.tink_aead_subtle.proofs.Keyed.{siv_encrypts}
 use Rattle.tink_aead_subtle.proofs.aes_gcm_siv.AesGcmSivAead.encrypt.Goals as goal

@@ -1,7 +1,7 @@
 use Rattle.std.proofs.Common.{◌≡◌, ◌-◌, ℕ, List, length, take, drop, subst, sym, ◌∙◌, arith, length-drop}
 use Rattle.std.specs.Prelude.{Result}
 use Rattle.std.proofs.lemmas.List.{take_all}
-use Rattle.tink_io.specs.Told.{Answers}
+use Rattle.tink_io.specs.Answering.{Answers}
 use Rattle.tink_io.specs.declared.error.Kind.{Kind}
 use Rattle.tink_aead_subtle.specs.Composed.{authenticated}
 use Rattle.tink_aead_subtle.proofs.ComposedExact.{composed_is}

@@ -1,7 +1,7 @@
 use Rattle.std.proofs.Common.{◌≡◌, ◌-◌, ◌<◌, ◌≤◌, inr, ℕ, List, Ok, Err, cond, length, drop, sym, ap, ◌∙◌, subst, refl, arith, length-drop}
 use Rattle.std.proofs.lemmas.Bool.{false≢true, le-leb, lt-leb}
 use Rattle.std.proofs.lemmas.List.{drop-drop}
-use Rattle.tink_io.specs.Told.{takes}
+use Rattle.tink_io.specs.Answering.{takes}
 use Rattle.tink_io.specs.declared.error.Kind.TheVariants.{RandomFault}
 use Rattle.tink_io.proofs.draws.Draws.take_into.Goals as goal
 

@@ -1,5 +1,5 @@
 use Rattle.std.proofs.Common.{◌≡◌, ℕ, List, Ok, Err, Result, ap, refl, subst, ◌∙◌}
-use Rattle.tink_io.specs.Told.{and_then, made_of, or_refused}
+use Rattle.tink_io.specs.Answering.{and_then, made_of, or_refused}
 use Rattle.tink_io.specs.declared.error.Kind.{Kind}
 use Rattle.tink_io.specs.declared.error.Kind.TheVariants.{BadJson}
 use Rattle.tink_json.proofs.MessageLemmas.{keyset-again, keyset-begins}

@@ -1,6 +1,6 @@
 use Rattle.std.proofs.Common.{◌≡◌, ◌∙◌, inl, Some, List, ℕ, Result, Ok, subst}
 use Rattle.wire_format.specs.Message.{encoded}
-use Rattle.tink_io.specs.Told.{made_of}
+use Rattle.tink_io.specs.Answering.{made_of}
 use Rattle.tink_io.specs.declared.error.Kind.{Kind}
 use Rattle.tink_proto.specs.Messages.{keyset}
 use Rattle.tink_proto.specs.declared.messages.infos.KeysetInfo.{KeysetInfo}

@@ -1,6 +1,6 @@
 use Rattle.std.proofs.Common.{List, ℕ, inl, refl, subst}
 use Rattle.wire_format.specs.Message.{encoded}
-use Rattle.tink_io.specs.Told.{Answers}
+use Rattle.tink_io.specs.Answering.{Answers}
 use Rattle.tink_proto.specs.Messages.{keyset}
 use Rattle.tink_keysets.specs.Encrypted.{by_master, encrypted, with_info}
 use Rattle.tink_keysets.proofs.ReadBack.{drawn_once, not_made, not_made_other, not_made_same, other_read, read_written, same_read}

@@ -65,7 +65,7 @@ pub returns-in_err-write-2 : goal.returns-in_err-write-2
 returns-in_err-write-2 g c = record {
   answer = (let p = err_from_is_err_and c.from_residual-in_err-write-2.result c.from_residual-in_err-write-2.ensures.1 in
       let sealer = c.args.writer.now.sealer in
-      let r = rw (c.loop-bytes.invariant.sealer, c.opened-text.ensures) at c.in_err-write-2.ensures.answer in
+      let r = rw (c.loop-bytes.invariant.sealer, c.plaintext-text.ensures) at c.in_err-write-2.ensures.answer in
       let opener = c.args.reader.now.opener in
       let reader = c.loop-bytes.reader in
       rw (p.1, p.2)
@@ -81,7 +81,7 @@ returns-in_err-write-2 g c = record {
 pub overflow_add-bytes : goal.overflow_add-bytes
 overflow_add-bytes g c =
     let reading = c.loop-bytes.invariant.under_way.reading in
-    omega (arith, reading.few, reading.small, reading.opened.number, length-append reading.texts (c.loop-bytes.reader.opened.items ∷ []), c.loop-bytes.reader.few, ap length c.opened-text.ensures)
+    omega (arith, reading.few, reading.small, reading.opened.number, length-append reading.texts (c.loop-bytes.reader.opened.items ∷ []), c.loop-bytes.reader.few, ap length c.plaintext-text.ensures)
 
 pub returns-in-Ended : goal.returns-in-Ended
 returns-in-Ended g c = record {
@@ -91,12 +91,12 @@ returns-in-Ended g c = record {
       let v : WriterMoment = record { mode = written.mode; number = written.segments; held = held_text written; got = g.K.Sink.got c.write-in-loop-bytes.new.sink; faults = g.K.Sink.faults c.write-in-loop-bytes.new.sink } in
       let ended = c.finish.new.writer in
       let o : WriterMoment = record { mode = ended.mode; number = ended.segments; held = held_text ended; got = g.K.Sink.got c.finish.new.sink; faults = g.K.Sink.faults c.finish.new.sink } in
-      let w = rw (c.loop-bytes.invariant.sealer, c.opened-text.ensures) at c.in_ok-write-2.ensures.answer in
+      let w = rw (c.loop-bytes.invariant.sealer, c.plaintext-text.ensures) at c.in_ok-write-2.ensures.answer in
       let r = rw (c.write-in-loop-bytes.ensures.sealer ∙ c.loop-bytes.invariant.sealer) at c.finish.ensures.answer in
       let opener = c.args.reader.now.opener in
       finished _ _ _ _ opener.overhead _ _ _ _ (some_first opener.some) (lt_of_lt_of_le (some_first opener.some) opener.first_fits) _ _ _ _ c.loop-bytes.invariant.under_way sealer.some (lt_of_lt_of_le sealer.some sealer.first_fits) v w.0 _
       (take reader.filled reader.buffer.items) (sym c.in-Ended.ensures) refl (reads_held _ reader.filled _ _ reader.buffer.items (Keeps-refl _) (le_trans reader.filled_in (le_of_eq c.loop-bytes.invariant.room))) o refl
-      _ c.finish.result (omega (arith, ap length c.opened-text.ensures)) c.finish.ensures.later c.write-in-loop-bytes.ensures.later (le_refl _) r);
+      _ c.finish.result (omega (arith, ap length c.plaintext-text.ensures)) c.finish.ensures.later c.write-in-loop-bytes.ensures.later (le_refl _) r);
   unwritten = finish_wrote _ _ _ _ c.finish.result _ _ c.finish.ensures.answer;
   later = record { reads = c.loop-bytes.invariant.reads; writes = le_trans c.loop-bytes.invariant.writes (le_trans c.write-in-loop-bytes.ensures.later c.finish.ensures.later) };
   source = c.loop-bytes.invariant.same_source;
@@ -107,10 +107,10 @@ pub loop-bytes-preserved : goal.loop-bytes-preserved
 loop-bytes-preserved g c =
     let sealer = c.args.writer.now.sealer in
     let opener = c.args.reader.now.opener in
-    let w = rw (c.loop-bytes.invariant.sealer, c.opened-text.ensures) at c.in_ok-write-2.ensures.answer in
+    let w = rw (c.loop-bytes.invariant.sealer, c.plaintext-text.ensures) at c.in_ok-write-2.ensures.answer in
     let next = rw c.loop-bytes.invariant.opener at c.in-Ok.ensures.answer in
     record {
-      under_way = rw c.opened-text.ensures
+      under_way = rw c.plaintext-text.ensures
           (one_more 0 _ _ _ 0 _ _ _ _ (some_first opener.some) (lt_of_lt_of_le (some_first opener.some) opener.first_fits) _ _ _ _ c.loop-bytes.invariant.under_way sealer.some (lt_of_lt_of_le sealer.some sealer.first_fits) _ _ w.0 c.write-in-loop-bytes.ensures.later next
           (omega (arith, c.open_next.ensures.small, c.open_next.new.self.opened.ok.0)));
       opener = c.open_next.ensures.opener ∙ c.loop-bytes.invariant.opener;
@@ -126,7 +126,7 @@ pub returns-in-Err : goal.returns-in-Err
 returns-in-Err g c = record {
   answer = (let sealer = c.args.writer.now.sealer in
       let opener = c.args.reader.now.opener in
-      let w = rw (c.loop-bytes.invariant.sealer, c.opened-text.ensures) at c.in_ok-write-2.ensures.answer in
+      let w = rw (c.loop-bytes.invariant.sealer, c.plaintext-text.ensures) at c.in_ok-write-2.ensures.answer in
       let refused = rw c.loop-bytes.invariant.opener at c.in-Err.ensures.answer in
       let after = c.open_next.new.self in
       next_failed _ _ _ _ _ _ _ _ _ (some_first opener.some) (lt_of_lt_of_le (some_first opener.some) opener.first_fits) _ _ _ _ c.loop-bytes.invariant.under_way sealer.some (lt_of_lt_of_le sealer.some sealer.first_fits) _ _ _ _ refl

@@ -1,5 +1,5 @@
 use Rattle.std.proofs.Common.{◌≡◌, subst}
-use Rattle.tink_io.specs.Told.{Answers}
+use Rattle.tink_io.specs.Answering.{Answers}
 use Rattle.tink_sets.specs.Entries.{entry_of, standing_prefix}
 use Rattle.tink_sets.proofs.BesideFacts.{made, refused}
 use Rattle.tink_sets.proofs.StandingFacts.{may, may_not}

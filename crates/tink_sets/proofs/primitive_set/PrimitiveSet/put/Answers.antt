@@ -1,6 +1,6 @@
 use Rattle.std.proofs.Common.{◌≡◌, Result, subst, sym}
 use Rattle.std.specs.Prelude.{OnErr, OnOk}
-use Rattle.tink_io.specs.Told.{Answers}
+use Rattle.tink_io.specs.Answering.{Answers}
 use Rattle.tink_io.specs.declared.error.TinkError.{TinkError}
 use Rattle.tink_sets.specs.Entries.{entry_of, may_stand, own_prefix, prefix_of}
 use Rattle.tink_set_groups.specs.Groups.{Adds, AddsLast, HaveSameGroups}

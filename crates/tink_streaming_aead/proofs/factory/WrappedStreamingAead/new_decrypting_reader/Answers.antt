@@ -14,7 +14,7 @@ returns-in-Ok-clause-answer g c =
     let room : place ≡ largest own + 1 = c.in-Ok.ensures.room ∙ ap (λ ks. largest ks + 1) keys in
     record {
       unread =
-          c.unread.ensures
+          c.of_choice.ensures
           ∙ ap (λ ks. Unread ks choice.data.items place c.args.r) keys
           ∙ ap (λ xs. Unread own xs place c.args.r) c.in-Ok.ensures.data
           ∙ ap (λ n. Unread own c.args.additional_data.now n c.args.r) room;

@@ -3,5 +3,5 @@ use Rattle.tink_streaming_io.proofs.reader.Reader.new.Goals as goal
 
 pub returns-clause-fresh : goal.returns-clause-fresh
 returns-clause-fresh g c =
-    let m = c.made.ensures in
-    fresh_reader c.made.result _ c.args.params.r _ _ _ m.progress m.segments m.held m.room m.opened m.memory m.opener c.overhead-overhead.ensures
+    let m = c.from_parts.ensures in
+    fresh_reader c.from_parts.result _ c.args.params.r _ _ _ m.progress m.segments m.held m.room m.opened m.memory m.opener c.overhead-overhead.ensures

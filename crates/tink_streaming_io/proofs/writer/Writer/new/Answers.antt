@@ -3,7 +3,7 @@ use Rattle.tink_streaming_io.proofs.writer.Writer.new.Goals as goal
 
 pub returns-clause-fresh : goal.returns-clause-fresh
 returns-clause-fresh g c =
-    let m = c.made.ensures in
+    let m = c.from_parts.ensures in
     let over = c.overhead-overhead.ensures in
-    fresh_writer c.made.result _ c.args.params.w _ _ _ m.mode m.segments m.held m.memory m.sealer (first_by c.args.params.ciphertext_segment_size c.args.params.first_ciphertext_segment_offset _ _ over)
+    fresh_writer c.from_parts.result _ c.args.params.w _ _ _ m.mode m.segments m.held m.memory m.sealer (first_by c.args.params.ciphertext_segment_size c.args.params.first_ciphertext_segment_offset _ _ over)
     (room_by c.args.params.ciphertext_segment_size _ _ over)

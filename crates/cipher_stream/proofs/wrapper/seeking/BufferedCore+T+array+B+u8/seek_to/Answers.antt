@@ -13,7 +13,7 @@ pub returns-then-inside-clause-placed : goal.returns-then-inside-clause-placed
 returns-then-inside-clause-placed g c =
     let k = g.T.StreamCipherCore.keystream in
     let n = g.T.Counter.StreamCipherCounter in
-    let at : (k c.write_keystream_block.new.self).position ≤ n.most = subst (λ x. x ≤ n.most) c.get_block_pos.ensures.value c.told.ensures.within in
+    let at : (k c.write_keystream_block.new.self).position ≤ n.most = subst (λ x. x ≤ n.most) c.get_block_pos.ensures.value c.with_range.ensures.within in
     placed_part g.row.B (k c.set_block_pos.new.self) (k c.write_keystream_block.new.self) (n.value c.args.block) c.args.byte n.most c.set_block_pos.ensures.placed.placed (g.met.T.StreamCipherSeekCore.wraps c.set_block_pos.new.self)
     c.write_keystream_block.ensures.is_moved at (c.requires.further c.if-inside.true) (omega (arith, c.requires.part))
 
@@ -39,7 +39,7 @@ pub returns-then-inside-clause-left : goal.returns-then-inside-clause-left
 returns-then-inside-clause-left g c =
     let k = g.T.StreamCipherCore.keystream in
     let n = g.T.Counter.StreamCipherCounter in
-    let at : (k c.write_keystream_block.new.self).position ≤ n.most = subst (λ x. x ≤ n.most) c.get_block_pos.ensures.value c.told.ensures.within in
+    let at : (k c.write_keystream_block.new.self).position ≤ n.most = subst (λ x. x ≤ n.most) c.get_block_pos.ensures.value c.with_range.ensures.within in
     g.met.T.StreamCipherSeekCore.remains c.write_keystream_block.new.self
     ∙ ap g.T.StreamCipherSeekCore.remaining_at (next_part g.row.B (k c.set_block_pos.new.self) (k c.write_keystream_block.new.self) (n.value c.args.block) c.args.byte n.most c.set_block_pos.ensures.placed.placed (g.met.T.StreamCipherSeekCore.wraps c.set_block_pos.new.self)
     c.write_keystream_block.ensures.is_moved at (c.requires.further c.if-inside.true) c.if-inside.true c.requires.part)

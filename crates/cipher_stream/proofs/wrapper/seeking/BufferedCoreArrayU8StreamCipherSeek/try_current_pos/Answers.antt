@@ -19,13 +19,13 @@ place_is size used b k core v h at view =
 pub returns-clause-ok : goal.returns-clause-ok
 returns-clause-ok g c =
     let n = g.T.Counter.StreamCipherCounter in
-    let is = place_is g.row.B c.self.inside.used (n.value c.told-block.result) g.T.StreamCipherCore.keystream c.self.inside.core c.args.self.now c.self.invariant.0 (ap n.value c.told-block.ensures.same ∙ c.get_block_pos.ensures.value) c.self.view_is in
+    let is = place_is g.row.B c.self.inside.used (n.value c.with_range-block.result) g.T.StreamCipherCore.keystream c.self.inside.core c.args.self.now c.self.invariant.0 (ap n.value c.with_range-block.ensures.same ∙ c.get_block_pos.ensures.value) c.self.view_is in
     subst (λ p. IsOk c.from_block_byte.result ↔ AtMost p g.N.SeekNum.most) is c.from_block_byte.ensures.ok
 
 pub returns-clause-value : goal.returns-clause-value
 returns-clause-value g c =
     let n = g.T.Counter.StreamCipherCounter in
-    let is = place_is g.row.B c.self.inside.used (n.value c.told-block.result) g.T.StreamCipherCore.keystream c.self.inside.core c.args.self.now c.self.invariant.0 (ap n.value c.told-block.ensures.same ∙ c.get_block_pos.ensures.value) c.self.view_is in
+    let is = place_is g.row.B c.self.inside.used (n.value c.with_range-block.result) g.T.StreamCipherCore.keystream c.self.inside.core c.args.self.now c.self.invariant.0 (ap n.value c.with_range-block.ensures.same ∙ c.get_block_pos.ensures.value) c.self.view_is in
     subst (λ p. IfOk c.from_block_byte.result (λ x. g.N.SeekNum.place x ≡ p)) is c.from_block_byte.ensures.value
 
 pub returns-clause-within : goal.returns-clause-within
@@ -34,5 +34,5 @@ returns-clause-within g c =
     let k = g.T.StreamCipherCore.keystream in
     let most = g.T.Counter.StreamCipherCounter.most in
     let core = c.self.inside.core in
-    let at : (k core).position ≤ most = subst (λ x. x ≤ most) c.get_block_pos.ensures.value c.told-block.ensures.within in
+    let at : (k core).position ≤ most = subst (λ x. x ≤ most) c.get_block_pos.ensures.value c.with_range-block.ensures.within in
     subst (λ v. (k v.0).position * B < (k v.0).period * B) c.self.view_is (within_turn (k core).position (k core).period most B at (g.met.T.StreamCipherSeekCore.wraps core) g.met.T.StreamCipherCore.block_size.0)

@@ -3,7 +3,7 @@ use Rattle.std.specs.List.{list_all}
 use Rattle.tink_proto.specs.declared.messages.keys.Key.{Key}
 use Rattle.tink_proto.specs.declared.messages.keys.Keyset.{Keyset}
 use Rattle.keyset_model.specs.Adding.{added}
-use Rattle.keyset_model.specs.Validity.{is_held}
+use Rattle.keyset_model.specs.Validity.{fits_handle}
 use Rattle.tink_keyset_rules.specs.Managed.{data_by, IsAdded}
 use Rattle.tink_keyset_rules.proofs.AddingFacts.{fresh_added, is_added, left_added, refused_data, replies_added, same_keys}
 use Rattle.tink_keyset_rules.proofs.GivenData.{gives_held}
@@ -45,7 +45,7 @@ pub returns-in-Err-clause-fresh : goal.returns-in-Err-clause-fresh
 returns-in-Err-clause-fresh g c = tt
 
 pub invariant_of-self-in-Ok : goal.invariant_of-self-in-Ok
-invariant_of-self-in-Ok g c = c.put_new.ensures.held (subst (λ (keys : List Key). IsTrue (list_all is_held keys)) (sym c.in_ok-reserve.ensures.items) c.self.invariant)
+invariant_of-self-in-Ok g c = c.put_new.ensures.held (subst (λ (keys : List Key). IsTrue (list_all fits_handle keys)) (sym c.in_ok-reserve.ensures.items) c.self.invariant)
 
 pub invariant_of-self-in-Err : goal.invariant_of-self-in-Err
-invariant_of-self-in-Err g c = subst (λ (keys : List Key). IsTrue (list_all is_held keys)) (sym c.in_ok-reserve.ensures.items) c.self.invariant
+invariant_of-self-in-Err g c = subst (λ (keys : List Key). IsTrue (list_all fits_handle keys)) (sym c.in_ok-reserve.ensures.items) c.self.invariant

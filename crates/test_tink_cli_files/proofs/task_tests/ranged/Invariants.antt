@@ -1,4 +1,0 @@
-use Rattle.test_tink_cli_files.proofs.task_tests.ranged.Given as goal
-
-abbrev pub ghosts-range_of : goal.ghosts-range_of
-ghosts-range_of a = record { name = a.blank.name; parts = a.blank.parts }
