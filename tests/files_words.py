@@ -173,6 +173,8 @@ MISTAKEN = [
     ("keys folder", 11, f"folder: {FOLDER}"),
     ("encrypt -k folder text", 11, f"folder: {FOLDER}"),
     ("encrypt -k keys.json folder", 11, f"folder: {FOLDER}"),
+    ("range -k keys.json --start 0 --length 1 folder", 11, f"folder: {FOLDER}"),
+    ("info -k keys.json folder", 11, f"folder: {FOLDER}"),
     ("encrypt -k keys.json -o folder text", 12, f"folder: {FOLDER}: give the name of a file"),
     ("new AES128_GCM -o folder", 12, f"folder: {FOLDER}: give the name of a file"),
     ("promote folder 7", 12, f"folder: {FOLDER}: give the name of a file"),
