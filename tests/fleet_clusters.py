@@ -29,7 +29,9 @@ from fleet_lib import (
     wait_for,
     write,
 )
+from tink_fleet.calls import batch_call
 from tink_fleet.program import Keys, list_keys
+from tink_fleet.tasks import Job, Task
 
 WORKERS = 3
 
@@ -177,6 +179,62 @@ class Clusters(Targets, ClusterYard):
             held = read(record)
             write(record, held[: held.rstrip(b"\n").rfind(b"\n") + 9])
         self.run_all(sealed, says="the last line was torn")
+        self.expect_streams(sealed, texts, "sealed")
+
+    def test_a_new_driver_waits_for_the_worker_of_a_killed_one(self):
+        """The worker is held at the first of two files of a call, and does not go on to the second."""
+        self.cluster.wait(WORKERS)
+        texts = {f"{number:02}": self.random.randbytes(3000) for number in range(24)}
+        for name, text in texts.items():
+            write(self.at("plain", name), text)
+        # Three processes get twelve calls of one file before calls of two: 12 and 13 are one call.
+        sealed = self.manifest(
+            "seal.toml", operation="encrypt", source="plain", target="sealed", program=self.holding_program("12")
+        )
+        self.killed_at_a_held_file(sealed, *self.engine)
+        running = self.waiting_driver(sealed, *self.engine)
+        self.assertNotIn("13", [name for _, name in self.began()])
+        write(self.at("go"), b"")
+        out, err = running.communicate(timeout=SECONDS)
+        self.assertEqual(running.returncode, 0, out + err)
+        record = self.record(sealed)
+        self.assertEqual([record[name].get("adopted", False) for name in ("12", "13")], [True, False])
+        self.expect_streams(sealed, texts, "sealed")
+
+    def test_a_call_of_a_run_that_is_over_is_refused(self):
+        from tink_fleet.dask_engine import DaskEngine
+
+        write(self.at("plain/x"), b"text")
+        task = Task("x", self.at("plain/x"), self.at("sealed/x.tink"), "x", "x", 4, 0, False)
+        engine = DaskEngine(self.cluster.address)
+        self.addCleanup(engine.close)
+        for run, made in (("old", []), ("new", ["done"])):
+            job = Job(self.id(), run, "encrypt", TINK, self.at("keys"), None, "", None, None)
+            engine.begin(self.id(), "new", lambda _: None)
+            results = engine.call(batch_call(job, [task]))
+            self.assertEqual([it["state"] for it in results], made)
+            self.assertEqual(os.path.exists(self.at("sealed/x.tink")), bool(made))
+
+    def test_what_failed_by_one_machine_goes_to_another_worker(self):
+        """The program cannot write a file on the first worker that tries it."""
+        self.cluster.wait(WORKERS)
+        texts = self.make_texts(60, 3000)
+        script = f"""#!/bin/sh
+for last; do :; done
+if [ "$1" = encrypt ]; then
+    echo "$PPID ${{last##*/}}" >> {self.at("began")}
+    [ $PPID != "$(sed -n "s/ ${{last##*/}}$//p" {self.at("began")} | head -n 1)" ] || exit 12
+fi
+exec {TINK} "$@"
+"""
+        write(self.at("program"), script.encode())
+        os.chmod(self.at("program"), 0o700)
+        sealed = self.manifest(
+            "seal.toml", operation="encrypt", source="plain", target="sealed", program=self.at("program")
+        )
+        self.run_all(sealed, says="60 done, 0 failed")
+        tried = self.began()
+        self.assertEqual((len(tried), len(set(tried))), (120, 120), "a file was tried by the same worker again")
         self.expect_streams(sealed, texts, "sealed")
 
     def test_of_two_drivers_the_second_is_refused(self):

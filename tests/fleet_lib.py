@@ -107,6 +107,52 @@ class Yard(unittest.TestCase):
         self.addCleanup(made.kill)
         return made
 
+    def holding_program(self, name: str) -> str:
+        """A program that waits at the first encryption of a file `name`, in a folder `held`, until there is a file `go`.
+
+        A line of `began` has the process that runs it and the name of a file that it encrypts.
+        """
+        script = f"""#!/bin/sh
+for last; do :; done
+if [ "$1" = encrypt ]; then
+    echo "$PPID ${{last##*/}}" >> {self.at("began")}
+    if [ "${{last##*/}}" = {name} ] && mkdir {self.at("held")} 2> /dev/null; then
+        while [ -d {self.folder} ] && [ ! -e {self.at("go")} ]; do sleep 0.1; done
+    fi
+fi
+exec {TINK} "$@"
+"""
+        write(self.at("program"), script.encode())
+        os.chmod(self.at("program"), 0o700)
+        return self.at("program")
+
+    def began(self) -> list[tuple[int, str]]:
+        """The process and the name of each encryption that a program of `holding_program` began."""
+        rows = [line.split() for line in read(self.at("began")).decode().splitlines()]
+        return [(int(pid), name) for pid, name in rows]
+
+    def killed_at_a_held_file(self, manifest: str, *engine: str) -> None:
+        """Kills a driver while the program of one of its workers is held."""
+        running = self.start("run", manifest, *engine)
+        self.assertTrue(wait_for(lambda: os.path.isdir(self.at("held")) or running.poll() is not None))
+        self.assertIsNone(running.poll(), "the driver ended before the file that is held")
+        running.send_signal(signal.SIGKILL)
+        running.communicate()
+
+    def waiting_driver(self, manifest: str, *engine: str) -> subprocess.Popen:
+        """A driver that says that it waits for the workers of an earlier one."""
+        running, said = self.start("run", manifest, *engine), []
+        end = threading.Timer(SECONDS, running.kill)
+        end.start()
+        try:
+            for line in running.stderr:
+                said.append(line)
+                if "waiting for the workers of an earlier driver to end their files" in line:
+                    return running
+        finally:
+            end.cancel()
+        raise self.failureException(f"it waits for no worker: {said} {running.stdout.read()}")
+
     def fleet(self, *words: str, status: int = 0, says: str = "", **more) -> str:
         """Runs fleet, and compares its status and a part of what it says."""
         done = subprocess.run(

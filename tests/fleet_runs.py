@@ -17,6 +17,7 @@ from fleet_lib import (
     lines_of,
     local_workers,
     needs,
+    processes,
     read,
     secrets_of,
     sha256,
@@ -146,6 +147,25 @@ class Operations(Targets, ParallelYard):
         self.expect_streams(moved, texts, "sealed", keys="new")
         self.assertTrue(all(it["adopted"] for it in self.record(moved).values()))
         self.assertEqual(before, {name: read(self.at("sealed", f"{name}.tink")) for name in texts})
+
+    def test_a_rewrap_in_place_of_what_does_not_open_is_not_believed(self):
+        """Neither key opens the streams: one is under a third key, and one was moved and damaged afterwards."""
+        texts = {name: self.random.randbytes(9000) for name in ("damaged", "foreign", "right")}
+        for name, text in texts.items():
+            write(self.at("plain", name), text)
+        tink("new", self.template, "-o", self.at("new"))
+        tink("new", self.template, "-o", self.at("other"))
+        for name, keys in (("damaged", "new"), ("foreign", "other"), ("right", "keys")):
+            self.encrypt_all({name: texts[name]}, keys=keys)
+        stream = read(self.at("sealed/damaged.tink"))
+        write(self.at("sealed/damaged.tink"), stream[:-1] + bytes([stream[-1] ^ 1]))
+        old = {name: read(self.at("sealed", f"{name}.tink")) for name in ("damaged", "foreign")}
+        moved = self.manifest("move.toml", operation="rewrap", source="sealed", to_keys="new")
+        said = self.run_all(moved, status=1, says="1 done, 2 failed")
+        for name in old:
+            self.assertRegex(said, f"{name}.tink: tink: .*{name}.tink: no key of .*keys opens this stream")
+            self.assertEqual(self.record(moved)[f"{name}.tink"]["state"], "failed")
+        self.expect_streams(moved, texts, "sealed", keys="new", old=old, all_done=False)
 
     def test_a_rewrap_under_a_later_primary_key_is_done_again(self):
         """Sources, targets and record are the same, and only the primary key is another."""
@@ -428,6 +448,43 @@ class Deaths(ParallelYard):
         running.send_signal(signal.SIGKILL)
         running.communicate()
         self.run_all(sealed, says=" 0 failed")
+
+    def killed_driver(self) -> tuple[str, dict[str, bytes], int]:
+        """A driver was killed while its worker is held at the first of two files of a call. Gives that worker."""
+        texts = {str(number): self.random.randbytes(3000) for number in range(10)}
+        for name, text in texts.items():
+            write(self.at("plain", name), text)
+        sealed = self.manifest(
+            "seal.toml", operation="encrypt", source="plain", target="sealed", program=self.holding_program("4")
+        )
+        self.killed_at_a_held_file(sealed, "--workers", "1")
+        # One process gets four calls of one file before calls of two.
+        call = json.loads(read(self.at("seal.fleet/calls/4.json")))
+        self.assertEqual([it["path"] for it in call["tasks"]], ["4", "5"])
+        [worker] = [pid for pid, name in self.began() if name == "4"]
+        self.assertEqual(self.workers(sealed), [worker])
+        return sealed, texts, worker
+
+    def test_a_worker_of_a_killed_driver_ends_after_its_file(self):
+        sealed, _, worker = self.killed_driver()
+        [parallel] = [parent for pid, parent, _ in processes() if pid == worker]
+        write(self.at("go"), b"")
+        ends = {worker, parallel}
+        self.assertTrue(wait_for(lambda: not any(line for pid, _, line in processes() if pid in ends)))
+        self.assertEqual([name for _, name in self.began()], ["0", "1", "2", "3", "4"])
+        self.assertEqual(files_below(self.at("sealed")), [f"{number}.tink" for number in range(5)])
+
+    def test_a_new_driver_waits_for_the_worker_of_a_killed_one(self):
+        sealed, texts, worker = self.killed_driver()
+        running = self.waiting_driver(sealed, "--workers", "1")
+        self.assertEqual(self.workers(sealed), [worker])
+        write(self.at("go"), b"")
+        out, err = running.communicate(timeout=SECONDS)
+        self.assertEqual(running.returncode, 0, out + err)
+        self.assertEqual([name for pid, name in self.began() if pid == worker], ["4"])
+        record = self.record(sealed)
+        self.assertEqual([record[name].get("adopted", False) for name in ("4", "5")], [True, False])
+        self.expect_streams(sealed, texts, "sealed")
 
     def test_a_file_at_which_each_worker_dies_is_named(self):
         """The program kills the worker that runs it for one file: before it makes a stream, and after that."""
