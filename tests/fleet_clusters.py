@@ -195,8 +195,8 @@ class Clusters(Targets, ClusterYard):
         running = self.waiting_driver(sealed, *self.engine)
         self.assertNotIn("13", [name for _, name in self.began()])
         write(self.at("go"), b"")
-        out, err = running.communicate(timeout=SECONDS)
-        self.assertEqual(running.returncode, 0, out + err)
+        running.communicate(timeout=SECONDS)
+        self.assertEqual(running.returncode, 0, read(self.at("said")))
         record = self.record(sealed)
         self.assertEqual([record[name].get("adopted", False) for name in ("12", "13")], [True, False])
         self.expect_streams(sealed, texts, "sealed")
@@ -218,7 +218,7 @@ class Clusters(Targets, ClusterYard):
     def test_what_failed_by_one_machine_goes_to_another_worker(self):
         """The program cannot write a file on the first worker that tries it."""
         self.cluster.wait(WORKERS)
-        texts = self.make_texts(60, 3000)
+        texts = self.make_texts(30, 3000)
         script = f"""#!/bin/sh
 for last; do :; done
 if [ "$1" = encrypt ]; then
@@ -232,9 +232,9 @@ exec {TINK} "$@"
         sealed = self.manifest(
             "seal.toml", operation="encrypt", source="plain", target="sealed", program=self.at("program")
         )
-        self.run_all(sealed, says="60 done, 0 failed")
+        self.run_all(sealed, says="30 done, 0 failed")
         tried = self.began()
-        self.assertEqual((len(tried), len(set(tried))), (120, 120), "a file was tried by the same worker again")
+        self.assertEqual((len(tried), len(set(tried))), (60, 60), "a file was tried by the same worker again")
         self.expect_streams(sealed, texts, "sealed")
 
     def test_of_two_drivers_the_second_is_refused(self):

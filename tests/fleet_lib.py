@@ -100,17 +100,17 @@ class Yard(unittest.TestCase):
         return self.at(name)
 
     def start(self, *words: str, **more) -> subprocess.Popen:
-        made = subprocess.Popen(
-            [sys.executable, FLEET, *words], stdout=subprocess.PIPE, stderr=subprocess.PIPE, text=True, **more
-        )
+        more = {"stdout": subprocess.PIPE, "stderr": subprocess.PIPE, "text": True} | more
+        made = subprocess.Popen([sys.executable, FLEET, *words], **more)
         # It may be stopped where a test fails.
         self.addCleanup(made.kill)
         return made
 
     def holding_program(self, name: str) -> str:
-        """A program that waits at the first encryption of a file `name`, in a folder `held`, until there is a file `go`.
+        """A program that waits at its first encryption of a file `name` until there is a file `go`.
 
-        A line of `began` has the process that runs it and the name of a file that it encrypts.
+        While it waits, and later, there is a folder `held`. For each encryption it appends a line to `began`: the
+        process that runs it, and the name of the file.
         """
         script = f"""#!/bin/sh
 for last; do :; done
@@ -141,17 +141,16 @@ exec {TINK} "$@"
 
     def waiting_driver(self, manifest: str, *engine: str) -> subprocess.Popen:
         """A driver that says that it waits for the workers of an earlier one."""
-        running, said = self.start("run", manifest, *engine), []
-        end = threading.Timer(SECONDS, running.kill)
-        end.start()
-        try:
-            for line in running.stderr:
-                said.append(line)
-                if "waiting for the workers of an earlier driver to end their files" in line:
-                    return running
-        finally:
-            end.cancel()
-        raise self.failureException(f"it waits for no worker: {said} {running.stdout.read()}")
+        record = os.path.splitext(manifest)[0] + ".fleet/record.jsonl"
+        before, line = lines_of(record), b"waiting for the workers of an earlier driver to end their files"
+        with open(self.at("said"), "wb") as said:
+            running = self.start("run", manifest, *engine, stderr=said)
+        # One that does not wait ends a file, or ends itself.
+        wait_for(
+            lambda: line in read(self.at("said")) or lines_of(record) > before or running.poll() is not None
+        )
+        self.assertIn(line, read(self.at("said")))
+        return running
 
     def fleet(self, *words: str, status: int = 0, says: str = "", **more) -> str:
         """Runs fleet, and compares its status and a part of what it says."""
