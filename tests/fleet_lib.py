@@ -117,7 +117,7 @@ for last; do :; done
 if [ "$1" = encrypt ]; then
     echo "$PPID ${{last##*/}}" >> {self.at("began")}
     if [ "${{last##*/}}" = {name} ] && mkdir {self.at("held")} 2> /dev/null; then
-        while [ -d {self.folder} ] && [ ! -e {self.at("go")} ]; do sleep 0.1; done
+        while [ -e "$0" ] && [ ! -e {self.at("go")} ]; do sleep 0.1; done
     fi
 fi
 exec {TINK} "$@"
