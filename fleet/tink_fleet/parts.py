@@ -13,7 +13,7 @@ FRONT = 45
 MIB = 1 << 20
 LEAST_PART, MOST_PART = 16 * MIB, 512 * MIB
 # One process hashes the stream meanwhile, so that the others share parts that are small beside that.
-PARTS_OF_A_PROCESS = 4
+PARTS_OF_A_PROCESS = 3
 
 
 @dataclass(frozen=True)
