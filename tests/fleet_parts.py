@@ -51,9 +51,9 @@ class Parts(Yard):
             self.assertEqual(
                 [at for start, length in cuts for at in range(start, start + length)], list(range(plaintext))
             )
-        self.assertEqual(parts.part_size(2 << 30, 4, None), 128 << 20)
-        self.assertEqual(parts.part_size((2 << 30) + 1, 4, None), 129 << 20)
-        self.assertEqual(parts.part_size((1 << 30) + 1, 4, None), 65 << 20)
+        self.assertEqual(parts.part_size(3 << 29, 4, None), 128 << 20)
+        self.assertEqual(parts.part_size((3 << 29) + 1, 4, None), 129 << 20)
+        self.assertEqual(parts.part_size((1 << 30) + 1, 4, None), 86 << 20)
         self.assertEqual(parts.part_size(1, 4, None), parts.LEAST_PART)
         self.assertEqual(parts.part_size(1 << 50, 4, None), parts.MOST_PART)
 
