@@ -6,7 +6,7 @@ use Rattle.std.proofs.lemmas.Nat.Bits.{bit_at_xor}
 use lib.Lanes.{zip2}
 use Rattle.standards.proofs.Bytes.{all_below}
 use Rattle.aes_block.specs.BitPlanes.{AreBlocks, byte_of, picked_at}
-use Rattle.aes_block.proofs.LinearSteps.{IsBit, picked_bit, places, plane_bit, same_bit, xor_bit}
+use Rattle.aes_block.proofs.LinearSteps.{IsBit, picked_bit, places, plane_bit, same_bit, xor_bit_is}
 
 -- the byte that each place takes, and its sum with that of the place
 abbrev pub taken_of : List ℕ → List (List ℕ) → ℕ → ℕ → ℕ
@@ -26,7 +26,7 @@ module _ (at : List ℕ) (size : length at ≡ 16) (within : T (all_below (λ k.
   pub taken_bit : (j : ℕ) (r : List ℕ) → j < 8 → r ≡ picked_at (get_or q j []) at → IsBit r (λ k i. bit_at (taken_of at b k i) j)
   taken_bit j r l is = picked_bit at size within (get_or q j []) r _ is (plane_bit (byte_of b) q h.planes j l)
 
-  pub sum_bit : (j : ℕ) (r : List ℕ) → j < 8 → r ≡ picked_at (get_or q j []) at → IsBit (zip2 bit_xor (get_or q j []) r) (λ k i. bit_at (sum_of at b k i) j)
-  sum_bit j r l is =
+  pub sum_bit : (j : ℕ) (r s : List ℕ) → j < 8 → r ≡ picked_at (get_or q j []) at → s ≡ zip2 bit_xor (get_or q j []) r → IsBit s (λ k i. bit_at (sum_of at b k i) j)
+  sum_bit j r s l is sum =
       same_bit _ _ _ (λ k i l m. sym (bit_at_xor (byte_of b k i) (taken_of at b k i) j))
-      (xor_bit (get_or q j []) r _ _ (plane_bit (byte_of b) q h.planes j l) (taken_bit j r l is))
+      (xor_bit_is (get_or q j []) r s _ _ (plane_bit (byte_of b) q h.planes j l) (taken_bit j r l is) sum)

@@ -20,10 +20,10 @@ abbrev exchanged : ℕ → ℕ → ℕ → ℕ → ℕ
 exchanged n mask x y = bit_and (bit_xor (x / 2 ^ n) y) mask
 
 -- what is computed of n and its mask: a shift moves bits, the mask has the numbers without n, and shifted those with it
-abbrev moves : ℕ → Bool
+abbrev pub moves : ℕ → Bool
 moves n = all_below (λ x. all_below (λ i. eqb (bit_at (x * 2 ^ n % 256) i) (up_bit n x i)) 8) 256
 
-abbrev masks : ℕ → ℕ → Bool
+abbrev pub masks : ℕ → ℕ → Bool
 masks n mask = all_below (λ i. eqb (bit_at mask i) (1 - i / n % 2) && eqb (up_bit n mask i) (i / n % 2)) 8
 
 shifted : (n : ℕ) → T (moves n) → (x i : ℕ) → x < 256 → i < 8 → bit_at (x * 2 ^ n % 256) i ≡ up_bit n x i
@@ -75,7 +75,7 @@ second_bit n mask x y i marks m =
     ∙ ap (λ z. (bit_at y i + z) % 2) (exchanged_bit n mask x y i ∙ ap (λ k. min ((bit_at x k + bit_at y i) % 2) (bit_at mask i)) e ∙ ap (λ z. min ((bit_at x (i + n) + bit_at y i) % 2) z) mark)
     ∙ given (bit_at x (i + n)) (bit_at y i) (i / n % 2) (bit_at-lt x (i + n)) (bit_at-lt y i) (omega arith)
 
-abbrev parts : ℕ → ℕ → List ℕ → List ℕ → List ℕ
+abbrev pub parts : ℕ → ℕ → List ℕ → List ℕ → List ℕ
 parts n mask a b = zip2 bit_and (zip2 bit_xor (zip2 (λ x y. x / 2 ^ y) a (replicate 16 n)) b) (replicate 16 mask)
 
 sixteen : (f : ℕ → ℕ → ℕ) (a b : List ℕ) → length a ≡ 16 → length b ≡ 16 → length (zip2 f a b) ≡ 16
@@ -135,7 +135,7 @@ swap_is n mask a b shifts marks few va vb =
     }
 
 -- bytes of a vector
-byte_below : (v : List ℕ) → Each1 (Fits w8) v → (k : ℕ) → get_or v k 0 < 256
+pub byte_below : (v : List ℕ) → Each1 (Fits w8) v → (k : ℕ) → get_or v k 0 < 256
 byte_below [] h k = lit< tt
 byte_below (x ∷ xs) h zero = h.0.fits
 byte_below (x ∷ xs) h (suc k) = byte_below xs h.1 k

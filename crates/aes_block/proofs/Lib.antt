@@ -16,3 +16,5 @@ pub mod SpreadPlanes
 pub mod InverseColumns
 pub mod Cases
 pub mod ColumnSums
+pub mod PlaneParts
+pub mod Halves

@@ -35,6 +35,9 @@ xor_bit a b f g p q =
           ∙ ap (λ n. (f k i + n) % 2) (q.bits k i h l);
     }
 
+pub xor_bit_is : (a b r : List ℕ) (f g : ℕ → ℕ → ℕ) → IsBit a f → IsBit b g → r ≡ zip2 bit_xor a b → IsBit r (λ k i. (f k i + g k i) % 2)
+xor_bit_is a b r f g p q is = subst (λ v. IsBit v (λ k i. (f k i + g k i) % 2)) (sym is) (xor_bit a b f g p q)
+
 pub places : (at : List ℕ) → T (all_below (λ k. ltb (get_or at k 0) 16) 16) → (k : ℕ) → k < 16 → get_or at k 0 < 16
 places at h k l = ltb→lt _ _ (every_below (λ k. ltb (get_or at k 0) 16) 16 h k l)
 
@@ -109,6 +112,10 @@ added b q ks key h g =
     (λ k i l m. sym (bit_at_xor (byte_of b k i) (get_or key k 0) j))
     (subst (λ v. IsBit v (λ k i. (bit_at (byte_of b k i) j + bit_at (get_or key k 0) j) % 2)) (sym (each j n))
     (xor_bit (get_or q j []) (get_or ks j []) _ _ (plane_bit (byte_of b) q h.planes j n) (plane_bit (λ k i. get_or key k 0) ks g.planes j n)))))
+
+pub same_eight : (a b c d e f g h p q r s t u v w : List ℕ) → a ≡ p → b ≡ q → c ≡ r → d ≡ s → e ≡ t → f ≡ u → g ≡ v → h ≡ w
+    → a ∷ b ∷ c ∷ d ∷ e ∷ f ∷ g ∷ h ∷ [] ≡ p ∷ q ∷ r ∷ s ∷ t ∷ u ∷ v ∷ w ∷ []
+same_eight a b c d e f g h p q r s t u v w z0 z1 z2 z3 z4 z5 z6 z7 = rw (z0, z1, z2, z3, z4, z5, z6, z7) refl
 
 -- two steps are one
 pub both : (f g : List ℕ → List ℕ) (b r : List (List ℕ)) → AreBlocks (map g (map f b)) r → AreBlocks (map (λ v. g (f v)) b) r

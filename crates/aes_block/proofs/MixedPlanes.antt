@@ -11,7 +11,7 @@ use Rattle.standards.proofs.Bytes.{agree, all_below, every_below}
 use Rattle.aes_block.specs.BitPlanes.{AT_FIRST, AT_SECOND, AreBlocks, byte_of, picked_at}
 use Rattle.aes_block.proofs.Cases.{below_16, below_8}
 use Rattle.aes_block.proofs.ColumnSums.{sum_below, sum_of, taken_below, taken_of}
-use Rattle.aes_block.proofs.LinearSteps.{IsBit, mapped, picked_bit, places, planes_of, same_bit, xor_bit}
+use Rattle.aes_block.proofs.LinearSteps.{IsBit, mapped, picked_bit, places, planes_of, same_bit, xor_bit_is}
 
 -- bit j of 2 times x
 abbrev pub two_bit : ℕ → ℕ → ℕ
@@ -46,10 +46,10 @@ abbrev mixed_of : List (List ℕ) → ℕ → ℕ → ℕ
 mixed_of b k i = mix_byte (byte_of b k i) (next_of b k i) (byte_of b (get_or AT_SECOND k 0) i) (next_of b (get_or AT_SECOND k 0) i)
 
 -- plane j, of that of twice the sums, of the next bytes and of the sums two further
-pub mixed_bit : (b q : List (List ℕ)) (j : ℕ) (w r d s : List ℕ) → AreBlocks b q → j < 8 → IsBit w (λ k i. two_bit (sum_of AT_FIRST b k i) j)
+pub mixed_bit : (b q : List (List ℕ)) (j : ℕ) (w r d s x y : List ℕ) → AreBlocks b q → j < 8 → IsBit w (λ k i. two_bit (sum_of AT_FIRST b k i) j)
     → IsBit r (λ k i. bit_at (next_of b k i) j) → IsBit d (λ k i. bit_at (sum_of AT_FIRST b k i) j) → s ≡ picked_at d AT_SECOND
-    → IsBit (zip2 bit_xor (zip2 bit_xor w r) s) (λ k i. bit_at (mixed_of b k i) j)
-mixed_bit b q j w r d s h l twice next sums is =
+    → x ≡ zip2 bit_xor w r → y ≡ zip2 bit_xor x s → IsBit y (λ k i. bit_at (mixed_of b k i) j)
+mixed_bit b q j w r d s x y h l twice next sums is sum all =
     let far = picked_bit AT_SECOND refl tt d s _ is sums in
     same_bit _ _ _ (λ k i n m.
     let sum = sum_of AT_FIRST b k i in
@@ -58,7 +58,7 @@ mixed_bit b q j w r d s h l twice next sums is =
     ∙ ap (λ z. (z + bit_at far_sum j) % 2) (sym (bit_at_xor (times 2 sum) (next_of b k i) j))
     ∙ sym (bit_at_xor (bit_xor (times 2 sum) (next_of b k i)) far_sum j)
     ∙ ap (λ z. bit_at z j) (by_sum (byte_of b k i) (next_of b k i) (byte_of b (get_or AT_SECOND k 0) i) (next_of b (get_or AT_SECOND k 0) i) (taken_below AT_FIRST refl tt b q h k i n m)))
-    (xor_bit _ _ _ _ (xor_bit _ _ _ _ twice next) far)
+    (xor_bit_is _ _ _ _ _ (xor_bit_is _ _ _ _ _ twice next sum) far all)
 
 column : (s : List ℕ) (k : ℕ) → k < 16 → get_or (mix_columns s) k 0 ≡ mix_byte (get_or s k 0) (get_or s (get_or AT_FIRST k 0) 0) (get_or s (get_or AT_SECOND k 0) 0) (get_or s (get_or AT_FIRST (get_or AT_SECOND k 0) 0) 0)
 column s = below_16 (λ k. get_or (mix_columns s) k 0 ≡ mix_byte (get_or s k 0) (get_or s (get_or AT_FIRST k 0) 0) (get_or s (get_or AT_SECOND k 0) 0) (get_or s (get_or AT_FIRST (get_or AT_SECOND k 0) 0) 0)) refl refl refl refl refl refl refl refl refl refl refl refl refl refl refl refl

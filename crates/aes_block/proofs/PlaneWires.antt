@@ -1,21 +1,16 @@
 -- From planes to wires and back.
-use Rattle.std.proofs.Common.{◌≡◌, ℕ, suc, ◌<◌, List, [], ◌∷◌, length, get_or, sym, ap, ◌∙◌, arith, refl}
+use Rattle.std.proofs.Common.{◌≡◌, ℕ, suc, ◌<◌, List, [], ◌∷◌, length, get_or, sym, ◌∙◌, arith, refl}
 use Rattle.std.specs.Int.{bit_at}
 use Rattle.aes_block.specs.TruthTables.{BITS}
 use Rattle.aes_block.specs.Wires.{AreBelow, ArePlanes, AreWires, IsWire}
 use Rattle.aes_block.proofs.TableBits.{bits_are}
-use Rattle.aes_block.proofs.Gates.{wire_at}
+use Rattle.aes_block.proofs.Gates.{length-wires, wire_at}
 
 wires_of : (X : ℕ → ℕ → ℕ) (ts : List ℕ) (vs : List (List ℕ)) → length vs ≡ length ts → ((n : ℕ) → n < length ts → IsWire X (get_or ts n 0) (get_or vs n [])) → AreWires X ts vs
 wires_of X [] [] e h = refl
 wires_of X [] (v ∷ vs) e h = absurd (omega (arith, e))
 wires_of X (t ∷ ts) [] e h = absurd (omega (arith, e))
 wires_of X (t ∷ ts) (v ∷ vs) e h = (h 0 (omega arith), wires_of X ts vs (omega (arith, e)) (λ n l. h (suc n) (omega (arith, l))))
-
-length-wires : (X : ℕ → ℕ → ℕ) (ts : List ℕ) (vs : List (List ℕ)) → AreWires X ts vs → length vs ≡ length ts
-length-wires X [] vs h = ap length h
-length-wires X (t ∷ ts) [] h = absurd h
-length-wires X (t ∷ ts) (v ∷ vs) h = ap (λ n. suc n) (length-wires X ts vs h.1)
 
 pub to_wires : (X : ℕ → ℕ → ℕ) (q : List (List ℕ)) → ArePlanes X q → AreWires X BITS q
 to_wires X q h =

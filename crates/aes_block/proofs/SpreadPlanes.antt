@@ -9,7 +9,7 @@ use Rattle.standards.proofs.Bytes.{all_below, every_below}
 use Rattle.aes_block.specs.BitPlanes.{AT_SECOND, AreBlocks, byte_of, spread, spread_byte}
 use Rattle.aes_block.proofs.Cases.{below_8}
 use Rattle.aes_block.proofs.ColumnSums.{sum_below, sum_of, taken_of}
-use Rattle.aes_block.proofs.LinearSteps.{IsBit, mapped, plane_bit, planes_of, same_bit, xor_bit}
+use Rattle.aes_block.proofs.LinearSteps.{IsBit, mapped, plane_bit, planes_of, same_bit, xor_bit_is}
 use Rattle.aes_block.proofs.Cases.{below_16}
 
 -- bit j of 4 times x
@@ -38,12 +38,12 @@ abbrev spread_of : List (List ℕ) → ℕ → ℕ → ℕ
 spread_of b k i = spread_byte (byte_of b k i) (taken_of AT_SECOND b k i)
 
 -- plane j of what is made of the sums
-pub spread_bit : (b q : List (List ℕ)) (j : ℕ) (w : List ℕ) → AreBlocks b q → j < 8 → IsBit w (λ k i. four_bit (sum_of AT_SECOND b k i) j)
-    → IsBit (zip2 bit_xor (get_or q j []) w) (λ k i. bit_at (spread_of b k i) j)
-spread_bit b q j w h l is =
+pub spread_bit : (b q : List (List ℕ)) (j : ℕ) (w r : List ℕ) → AreBlocks b q → j < 8 → IsBit w (λ k i. four_bit (sum_of AT_SECOND b k i) j)
+    → r ≡ zip2 bit_xor (get_or q j []) w → IsBit r (λ k i. bit_at (spread_of b k i) j)
+spread_bit b q j w r h l is sum =
     same_bit _ _ _ (λ k i n m.
     ap (λ z. (bit_at (byte_of b k i) j + z) % 2) (four_are (sum_of AT_SECOND b k i) j (sum_below AT_SECOND refl tt b q h k i n m) l)
-    ∙ sym (bit_at_xor (byte_of b k i) (times 4 (sum_of AT_SECOND b k i)) j)) (xor_bit (get_or q j []) w _ _ (plane_bit (byte_of b) q h.planes j l) is)
+    ∙ sym (bit_at_xor (byte_of b k i) (times 4 (sum_of AT_SECOND b k i)) j)) (xor_bit_is (get_or q j []) w r _ _ (plane_bit (byte_of b) q h.planes j l) is sum)
 
 column : (s : List ℕ) (k : ℕ) → k < 16 → get_or (spread s) k 0 ≡ spread_byte (get_or s k 0) (get_or s (get_or AT_SECOND k 0) 0)
 column s = below_16 (λ k. get_or (spread s) k 0 ≡ spread_byte (get_or s k 0) (get_or s (get_or AT_SECOND k 0) 0)) refl refl refl refl refl refl refl refl refl refl refl refl refl refl refl refl

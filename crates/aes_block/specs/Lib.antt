@@ -5,3 +5,4 @@ pub mod Wires
 pub mod TruthTables
 pub mod Transposition
 pub mod BitPlanes
+pub mod Parts

@@ -5,6 +5,7 @@ ghost use Rattle.std.specs.Prelude.{◌≡◌, ⊤, length, codes};
 ghost use Rattle.aes_block.specs.Ciphers.{decrypted, encrypted};
 ghost use Rattle.aes_block.specs.Lengths.{length-decrypted, length-encrypted};
 
+use crate::blocks::{Decryption, Encryption, run};
 use crate::key_sizes::{AesKeySize, KeySizes};
 use crate::schedule::Schedule;
 use cipher::{
@@ -24,8 +25,8 @@ pub type Aes192 = Aes<24>;
 /// AES (FIPS 197) with keys of 32 bytes, in 14 rounds.
 pub type Aes256 = Aes<32>;
 
-/// AES under a key of N bytes, which contracts see as the key (FIPS 197, 5). It is its own backend: eight blocks
-/// together go by bit planes, fewer than eight as the first of eight, and one alone by tables.
+/// AES under a key of N bytes, which contracts see as the key (FIPS 197, 5). It is its own backend: blocks
+/// go together by bit planes, up to sixteen by a call, and one alone by tables.
 #[derive(Drop)]
 pub struct Aes<const N: usize> {
     schedule: Schedule,
@@ -80,10 +81,10 @@ impl KeyInit<32> for Aes256 {
 impl<const N: usize> BlockCipherEncBackend<16> for Aes<N> {
     ghost encrypts = { encrypted N };
 
-    ghost lanes = { λ _. 8 };
+    ghost lanes = { λ _. 16 };
 
     fn width(&self) -> usize {
-        8
+        16
     }
 
     fn encrypt_block(&self, block: &mut InOut<'_, '_, [u8; 16]>) {
@@ -91,13 +92,11 @@ impl<const N: usize> BlockCipherEncBackend<16> for Aes<N> {
     }
 
     fn encrypt_par_blocks(&self, blocks: &mut InOutBuf<'_, '_, [u8; 16]>) {
-        self.schedule
-            .encrypt_eight(&mut *blocks.output, blocks.input);
+        run::<Encryption>(&self.schedule, &mut *blocks.output, blocks.input);
     }
 
     fn encrypt_tail_blocks(&self, blocks: &mut InOutBuf<'_, '_, [u8; 16]>) {
-        self.schedule
-            .encrypt_some(&mut *blocks.output, blocks.input);
+        run::<Encryption>(&self.schedule, &mut *blocks.output, blocks.input);
     }
 
     ghost block_size = { (lit≤ tt, lit< tt) };
@@ -121,10 +120,10 @@ where
 impl<const N: usize> BlockCipherDecBackend<16> for Aes<N> {
     ghost decrypts = { decrypted N };
 
-    ghost lanes = { λ _. 8 };
+    ghost lanes = { λ _. 16 };
 
     fn width(&self) -> usize {
-        8
+        16
     }
 
     fn decrypt_block(&self, block: &mut InOut<'_, '_, [u8; 16]>) {
@@ -132,13 +131,11 @@ impl<const N: usize> BlockCipherDecBackend<16> for Aes<N> {
     }
 
     fn decrypt_par_blocks(&self, blocks: &mut InOutBuf<'_, '_, [u8; 16]>) {
-        self.schedule
-            .decrypt_eight(&mut *blocks.output, blocks.input);
+        run::<Decryption>(&self.schedule, &mut *blocks.output, blocks.input);
     }
 
     fn decrypt_tail_blocks(&self, blocks: &mut InOutBuf<'_, '_, [u8; 16]>) {
-        self.schedule
-            .decrypt_some(&mut *blocks.output, blocks.input);
+        run::<Decryption>(&self.schedule, &mut *blocks.output, blocks.input);
     }
 
     ghost block_size = { (lit≤ tt, lit< tt) };

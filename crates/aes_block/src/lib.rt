@@ -1,5 +1,5 @@
-//! AES (FIPS 197): the block ciphers with keys of 16, 24 and 32 bytes. Eight blocks together go by bit planes, one alone
-//! and the key expansion by tables of bytes.
+//! AES (FIPS 197): the block ciphers with keys of 16, 24 and 32 bytes. Blocks go together by bit planes, one alone and
+//! the key expansion by tables of bytes.
 #![tactic(auto)]
 
 ghost use Rattle.std.specs.Prelude.{◌≡◌, ◌≤◌, ◌<◌, ℕ, List, length};
@@ -8,6 +8,7 @@ ghost use Rattle.standards.specs.Lists.{AreBytes};
 ghost use Rattle.aes_block.specs.Ciphers.{IsKeySize, decrypted, encrypted};
 
 mod aes;
+mod blocks;
 mod decryption;
 mod encryption;
 mod key_expansion;

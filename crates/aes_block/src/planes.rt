@@ -1,4 +1,5 @@
-// AES of eight blocks together by their bit planes: circuits of ands, xors and moves of bytes, which read no table.
+// AES of eight or sixteen blocks together by their bit planes: circuits of ands, xors and moves of bytes, which read no
+// table. They are written once, for planes of each width.
 ghost use Rattle.std.specs.Prelude.{◌≡◌, ◌+◌, ◌<◌, ◌≤◌, ℕ, List, map, length};
 ghost use Rattle.standards.specs.Aes.{cipher};
 ghost use Rattle.standards.specs.AesInverse.{inv_cipher};
@@ -6,19 +7,23 @@ ghost use Rattle.aes_block.specs.BitPlanes.{AreKeys, IsKey};
 
 mod inverse_rounds;
 mod inverse_substitution;
+mod plane;
 mod rounds;
 mod substitution;
 mod transposition;
 mod vectors;
+mod wide;
 
 use inverse_rounds::decipher_planes;
+use plane::Plane;
 use rounds::encipher_planes;
 use std::simd::prelude::*;
 use transposition::transpose;
-use vectors::{arrays, vectors};
+use vectors::{arrays, vectors, wide_arrays, wide_vectors};
 
-// Plane j has bit j of each byte of eight blocks: that of block i is bit i of the plane's byte.
-pub(crate) type Planes = [u8x16; 8];
+// Plane j has bit j of each byte of the blocks. Each of its parts is of eight blocks: that of block i is bit i of the
+// part's byte.
+pub(crate) type Planes<P> = [P; 8];
 
 // Those of a round key, which is the same for each block.
 #[derive(Clone, Copy)]
@@ -50,18 +55,19 @@ pub(crate) fn round_key_planes(keys: &[[u8; 16]; 15], rounds: usize) -> [KeyPlan
     planes
 }
 
-// Eight vectors, each enciphered.
+// Eight vectors of blocks, each block enciphered.
 #[inline(always)]
-fn encipher_vectors(keys: &[KeyPlanes; 15], rounds: usize, v: [u8x16; 8]) -> [u8x16; 8]
+fn encipher_vectors<P: Plane>(keys: &[KeyPlanes; 15], rounds: usize, v: Planes<P>) -> Planes<P>
     requires some { 1 ≤ rounds }
     requires few { rounds ≤ 14 }
-    ensures { (ks : List (List ℕ)) → AreKeys rounds ks keys.now → result ≡ map (cipher rounds ks) v }
+    ensures { (h : ℕ) (ks : List (List ℕ)) → AreKeys rounds ks keys.now
+        → map (P.part h) result ≡ map (cipher rounds ks) (map (P.part h) v) }
 {
     transpose(encipher_planes(keys, rounds, transpose(v)))
 }
 
 // Eight blocks, each enciphered in so many rounds, with the planes of these round keys.
-pub(crate) fn encipher_blocks(
+pub(crate) fn encipher_eight(
     keys: &[KeyPlanes; 15],
     rounds: usize,
     blocks: &[[u8; 16]],
@@ -74,18 +80,33 @@ pub(crate) fn encipher_blocks(
     arrays(encipher_vectors(keys, rounds, vectors(blocks)))
 }
 
-// Eight vectors, each deciphered.
-#[inline(always)]
-fn decipher_vectors(keys: &[KeyPlanes; 15], rounds: usize, v: [u8x16; 8]) -> [u8x16; 8]
+// Sixteen blocks, each enciphered as above.
+pub(crate) fn encipher_sixteen(
+    keys: &[KeyPlanes; 15],
+    rounds: usize,
+    blocks: &[[u8; 16]],
+) -> [[u8; 16]; 16]
     requires some { 1 ≤ rounds }
     requires few { rounds ≤ 14 }
-    ensures { (ks : List (List ℕ)) → AreKeys rounds ks keys.now → result ≡ map (inv_cipher rounds ks) v }
+    requires sixteen { length blocks.now ≡ 16 }
+    ensures { (ks : List (List ℕ)) → AreKeys rounds ks keys.now → result ≡ map (cipher rounds ks) blocks.now }
+{
+    wide_arrays(encipher_vectors(keys, rounds, wide_vectors(blocks)))
+}
+
+// Eight vectors of blocks, each block deciphered.
+#[inline(always)]
+fn decipher_vectors<P: Plane>(keys: &[KeyPlanes; 15], rounds: usize, v: Planes<P>) -> Planes<P>
+    requires some { 1 ≤ rounds }
+    requires few { rounds ≤ 14 }
+    ensures { (h : ℕ) (ks : List (List ℕ)) → AreKeys rounds ks keys.now
+        → map (P.part h) result ≡ map (inv_cipher rounds ks) (map (P.part h) v) }
 {
     transpose(decipher_planes(keys, rounds, transpose(v)))
 }
 
 // Eight blocks, each deciphered in so many rounds, with the planes of the cipher's round keys.
-pub(crate) fn decipher_blocks(
+pub(crate) fn decipher_eight(
     keys: &[KeyPlanes; 15],
     rounds: usize,
     blocks: &[[u8; 16]],
@@ -96,4 +117,18 @@ pub(crate) fn decipher_blocks(
     ensures { (ks : List (List ℕ)) → AreKeys rounds ks keys.now → result ≡ map (inv_cipher rounds ks) blocks.now }
 {
     arrays(decipher_vectors(keys, rounds, vectors(blocks)))
+}
+
+// Sixteen blocks, each deciphered as above.
+pub(crate) fn decipher_sixteen(
+    keys: &[KeyPlanes; 15],
+    rounds: usize,
+    blocks: &[[u8; 16]],
+) -> [[u8; 16]; 16]
+    requires some { 1 ≤ rounds }
+    requires few { rounds ≤ 14 }
+    requires sixteen { length blocks.now ≡ 16 }
+    ensures { (ks : List (List ℕ)) → AreKeys rounds ks keys.now → result ≡ map (inv_cipher rounds ks) blocks.now }
+{
+    wide_arrays(decipher_vectors(keys, rounds, wide_vectors(blocks)))
 }

@@ -4,10 +4,13 @@ ghost use Rattle.standards.specs.AesKeys.{aes};
 ghost use Rattle.standards.specs.AesInverse.{aes_inverse};
 ghost use Rattle.aes_block.specs.Ciphers.{IsKeySize};
 
+use crate::blocks::{Decryption, Direction, Encryption};
 use crate::decryption::decipher;
 use crate::encryption::encipher;
 use crate::key_expansion::{expand, round_keys};
-use crate::planes::{KeyPlanes, decipher_blocks, encipher_blocks, round_key_planes};
+use crate::planes::{
+    KeyPlanes, decipher_eight, decipher_sixteen, encipher_eight, encipher_sixteen, round_key_planes,
+};
 use std::alloc::AllocError;
 use std::marker::Model;
 
@@ -54,72 +57,43 @@ impl Schedule {
         *output = encipher(&self.round_keys, self.rounds, read(output, input));
     }
 
-    // Encrypts the eight blocks that are read, or, where as many are not read, those that stand in the output.
-    pub(crate) fn encrypt_eight(&self, output: &mut [[u8; 16]], input: &[[u8; 16]])
-        requires { length output.old ≡ 8 }
-        ensures { output.new ≡ map (aes self.now) (pick input.now output.old) }
-    {
-        let enciphered = encipher_blocks(&self.planes, self.rounds, read_all(output, input));
-        output.copy_from_slice(&enciphered);
-    }
-
-    // Encrypts at most eight blocks as above, by one call: one alone by tables, and more as the first of eight.
-    pub(crate) fn encrypt_some(&self, output: &mut [[u8; 16]], input: &[[u8; 16]])
-        requires { length output.old ≤ 8 }
-        ensures { output.new ≡ map (aes self.now) (pick input.now output.old) }
-    {
-        if output.len() == 1 {
-            self.encrypt_one(output, input);
-        } else {
-            self.encrypt_first(output, input);
-        }
-    }
-
-    fn encrypt_one(&self, output: &mut [[u8; 16]], input: &[[u8; 16]])
-        requires { length output.old ≡ 1 }
-        ensures { output.new ≡ map (aes self.now) (pick input.now output.old) }
-    {
-        let block = read_all(output, input)[0];
-        output[0] = encipher(&self.round_keys, self.rounds, &block);
-    }
-
-    fn encrypt_first(&self, output: &mut [[u8; 16]], input: &[[u8; 16]])
-        requires { length output.old ≤ 8 }
-        ensures { output.new ≡ map (aes self.now) (pick input.now output.old) }
-    {
-        let n = output.len();
-        let mut blocks = [[0; 16]; 8];
-        blocks[..n].copy_from_slice(read_all(output, input));
-        let enciphered = encipher_blocks(&self.planes, self.rounds, &blocks);
-        output.copy_from_slice(&enciphered[..n]);
-    }
-
     // Decrypts what is read, or, where nothing is read, what stands in the output.
     pub(crate) fn decrypt(&self, output: &mut [u8; 16], input: &[[u8; 16]])
         ensures { output.new ≡ aes_inverse self.now (slice_index_or input.now 0 output.old) }
     {
         *output = decipher(&self.round_keys, self.rounds, read(output, input));
     }
+}
 
-    // Decrypts the eight blocks that are read, or, where as many are not read, those that stand in the output.
-    pub(crate) fn decrypt_eight(&self, output: &mut [[u8; 16]], input: &[[u8; 16]])
-        requires { length output.old ≡ 8 }
-        ensures { output.new ≡ map (aes_inverse self.now) (pick input.now output.old) }
-    {
-        let deciphered = decipher_blocks(&self.planes, self.rounds, read_all(output, input));
-        output.copy_from_slice(&deciphered);
+impl Direction for Encryption {
+    ghost of = { aes };
+
+    fn one(schedule: &Schedule, block: &[u8; 16]) -> [u8; 16] {
+        encipher(&schedule.round_keys, schedule.rounds, block)
     }
 
-    // Decrypts at most eight blocks as above, by one call: they are the first of eight.
-    pub(crate) fn decrypt_some(&self, output: &mut [[u8; 16]], input: &[[u8; 16]])
-        requires { length output.old ≤ 8 }
-        ensures { output.new ≡ map (aes_inverse self.now) (pick input.now output.old) }
-    {
-        let n = output.len();
-        let mut blocks = [[0; 16]; 8];
-        blocks[..n].copy_from_slice(read_all(output, input));
-        let deciphered = decipher_blocks(&self.planes, self.rounds, &blocks);
-        output.copy_from_slice(&deciphered[..n]);
+    fn eight(schedule: &Schedule, blocks: &[[u8; 16]]) -> [[u8; 16]; 8] {
+        encipher_eight(&schedule.planes, schedule.rounds, blocks)
+    }
+
+    fn sixteen(schedule: &Schedule, blocks: &[[u8; 16]]) -> [[u8; 16]; 16] {
+        encipher_sixteen(&schedule.planes, schedule.rounds, blocks)
+    }
+}
+
+impl Direction for Decryption {
+    ghost of = { aes_inverse };
+
+    fn one(schedule: &Schedule, block: &[u8; 16]) -> [u8; 16] {
+        decipher(&schedule.round_keys, schedule.rounds, block)
+    }
+
+    fn eight(schedule: &Schedule, blocks: &[[u8; 16]]) -> [[u8; 16]; 8] {
+        decipher_eight(&schedule.planes, schedule.rounds, blocks)
+    }
+
+    fn sixteen(schedule: &Schedule, blocks: &[[u8; 16]]) -> [[u8; 16]; 16] {
+        decipher_sixteen(&schedule.planes, schedule.rounds, blocks)
     }
 }
 
@@ -129,17 +103,6 @@ fn read<'a>(output: &'a [u8; 16], input: &'a [[u8; 16]]) -> &'a [u8; 16]
     match input.first() {
         Some(block) => block,
         None => output,
-    }
-}
-
-fn read_all<'a>(output: &'a [[u8; 16]], input: &'a [[u8; 16]]) -> &'a [[u8; 16]]
-    ensures value { result.now ≡ pick input.now output.now }
-    ensures size { length result.now ≡ length output.now }
-{
-    if input.len() == output.len() {
-        input
-    } else {
-        output
     }
 }
 

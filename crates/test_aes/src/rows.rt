@@ -103,7 +103,7 @@ fn holds_at(each: &Each, n: usize) -> bool {
             counter_mode::holds(
                 &Flavor::Ctr32BE,
                 &block_by_block::NONCE,
-                &counter_mode::Asked::Apply(n, 300),
+                &counter_mode::Asked::Apply(n, 600),
             )
         }
         Each::Blocks => block_by_block::all_agree(n),
@@ -115,8 +115,8 @@ fn holds_at(each: &Each, n: usize) -> bool {
 // Its name, what is asked, and of how many numbers from 0 on.
 const EACH: &[(&str, Each, usize)] = &[
     ("which lengths of keys are taken", Each::Key, 33),
-    ("counter mode of each length", Each::Counter, 301),
-    ("blocks together are blocks alone", Each::Blocks, 18),
+    ("counter mode of each length", Each::Counter, 601),
+    ("blocks together are blocks alone", Each::Blocks, 39),
     ("tags under a kept key", Each::Tag, 140),
     ("GCM of each length", Each::Seal(Of::Gcm(KEY)), 301),
     (

@@ -240,8 +240,8 @@ tink verify -k KEYS [OPTION].. [IN]
 
 Makes a token of IN by the primary key of KEYS, and gives the payload of a token
 that a key of KEYS accepts. Who has the token can read its payload. Who has the
-keys sees whether it was changed. IN has 16 MiB at most. IN and OUT are as those
-of `tink encrypt`.
+keys sees whether it was changed. A token has 16 MiB at most, and its payload
+some 12 MiB. IN and OUT are as those of `tink encrypt`.
 
   -k, --keys KEYS     the file of keys, which are MACs
   --master MASTER     KEYS was wrapped under the file of keys MASTER

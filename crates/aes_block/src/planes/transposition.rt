@@ -1,40 +1,44 @@
-// Eight blocks as eight bit planes, and back.
-ghost use Rattle.std.specs.Prelude.{◌≡◌, ℕ};
+// Eight vectors of blocks as eight bit planes, and back. Each part is transposed alike.
+ghost use Rattle.std.specs.Prelude.{◌≡◌, ℕ, map};
 ghost use Rattle.aes_block.specs.Transposition.{IsSwap, IsTransposed};
 
-use std::simd::prelude::*;
+use crate::planes::Planes;
+use crate::planes::plane::Plane;
 
 // Bits 0, 2, 4, 6 of the second change places with bits 1, 3, 5, 7 of the first.
 #[inline(always)]
-fn swap_ones(a: u8x16, b: u8x16) -> (u8x16, u8x16)
-    ensures { IsSwap 1 a b result.0 result.1 }
+fn swap_ones<P: Plane>(a: P, b: P) -> (P, P)
+    ensures { (h : ℕ) → IsSwap 1 (P.part h a) (P.part h b) (P.part h result.0) (P.part h result.1) }
 {
-    let t = ((a >> u8x16::splat(1)) ^ b) & u8x16::splat(0x55);
-    (a ^ (t << u8x16::splat(1)), b ^ t)
+    let b = b.of_bytes();
+    let t = a.of_bytes().down(1).xor(b).and(P::splat(0x55));
+    (a.xor(t.up(1)), b.xor(t))
 }
 
 // Bits 0, 1, 4, 5 of the second change places with bits 2, 3, 6, 7 of the first.
 #[inline(always)]
-fn swap_twos(a: u8x16, b: u8x16) -> (u8x16, u8x16)
-    ensures { IsSwap 2 a b result.0 result.1 }
+fn swap_twos<P: Plane>(a: P, b: P) -> (P, P)
+    ensures { (h : ℕ) → IsSwap 2 (P.part h a) (P.part h b) (P.part h result.0) (P.part h result.1) }
 {
-    let t = ((a >> u8x16::splat(2)) ^ b) & u8x16::splat(0x33);
-    (a ^ (t << u8x16::splat(2)), b ^ t)
+    let b = b.of_bytes();
+    let t = a.of_bytes().down(2).xor(b).and(P::splat(0x33));
+    (a.xor(t.up(2)), b.xor(t))
 }
 
 // Bits 0 to 3 of the second change places with bits 4 to 7 of the first.
 #[inline(always)]
-fn swap_fours(a: u8x16, b: u8x16) -> (u8x16, u8x16)
-    ensures { IsSwap 4 a b result.0 result.1 }
+fn swap_fours<P: Plane>(a: P, b: P) -> (P, P)
+    ensures { (h : ℕ) → IsSwap 4 (P.part h a) (P.part h b) (P.part h result.0) (P.part h result.1) }
 {
-    let t = ((a >> u8x16::splat(4)) ^ b) & u8x16::splat(0x0f);
-    (a ^ (t << u8x16::splat(4)), b ^ t)
+    let b = b.of_bytes();
+    let t = a.of_bytes().down(4).xor(b).and(P::splat(0x0f));
+    (a.xor(t.up(4)), b.xor(t))
 }
 
 // Bit i of vector j becomes bit j of vector i.
 #[inline(always)]
-pub(crate) fn transpose(q: [u8x16; 8]) -> [u8x16; 8]
-    ensures { IsTransposed q result }
+pub(crate) fn transpose<P: Plane>(q: Planes<P>) -> Planes<P>
+    ensures { (h : ℕ) → IsTransposed (map (P.part h) q) (map (P.part h) result) }
 {
     let [a, b, c, d, e, f, g, h] = q;
     let (a1, b1) = swap_ones(a, b);

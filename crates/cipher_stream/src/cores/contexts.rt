@@ -121,7 +121,7 @@ fn apply_in_parts<K: StreamCipherBackend<B>, const B: usize>(
     apply_in_place(output, backend);
 }
 
-// eight blocks at a time, or `width` if that is less
+// sixteen blocks at a time, or `width` if that is less
 fn apply_in_place<K: StreamCipherBackend<B>, const B: usize>(
     output: &mut [[u8; B]],
     backend: &mut K,
@@ -130,8 +130,8 @@ fn apply_in_place<K: StreamCipherBackend<B>, const B: usize>(
     ensures value { output.new ≡ xored_blocks (stream_of (K.keystream backend.old)) output.old }
     ensures is_moved { IsMoved (K.keystream backend.old) (length output.old) (K.keystream backend.new) }
 {
-    let mut keys = [[0; B]; 8];
-    let most = backend.width().min(8);
+    let mut keys = [[0; B]; 16];
+    let most = backend.width().min(16);
     let n = output.len();
     let mut at = 0;
     while at < n {
@@ -143,10 +143,10 @@ fn apply_in_place<K: StreamCipherBackend<B>, const B: usize>(
 
 fn apply_some<K: StreamCipherBackend<B>, const B: usize>(
     output: &mut [[u8; B]],
-    keys: &mut [[u8; B]; 8],
+    keys: &mut [[u8; B]; 16],
     backend: &mut K,
 )
-    requires few { length output.old ≤ 8 }
+    requires few { length output.old ≤ 16 }
     requires narrow { length output.old ≤ K.lanes backend.old }
     ensures kept { K.keeps backend.old backend.new }
     ensures same_lanes { K.lanes backend.new ≡ K.lanes backend.old }

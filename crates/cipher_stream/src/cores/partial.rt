@@ -69,24 +69,24 @@ pub(crate) fn apply_whole<T: StreamCipherCore<B>, const B: usize>(core: &mut T, 
     ensures is_moved { IsMoved (T.keystream core.old) (length bytes.old / B) (T.keystream core.new) }
     ensures spent { Spends (T.remaining core.old) (length bytes.old / B) (T.remaining core.new) }
 {
-    let mut keys = [[0; B]; 8];
+    let mut keys = [[0; B]; 16];
     let n = bytes.len();
     let mut at = 0;
     while at < n {
-        let size = (n - at).min(8 * B);
+        let size = (n - at).min(16 * B);
         apply_some(core, &mut keys, &mut bytes[at..at + size]);
         at += size;
     }
 }
 
-// at most eight blocks
+// at most sixteen blocks
 fn apply_some<T: StreamCipherCore<B>, const B: usize>(
     core: &mut T,
-    keys: &mut [[u8; B]; 8],
+    keys: &mut [[u8; B]; 16],
     bytes: &mut [u8],
 )
     requires whole { length bytes.old % B ≡ 0 }
-    requires few { length bytes.old ≤ 8 * B }
+    requires few { length bytes.old ≤ 16 * B }
     ensures value { bytes.new ≡ xored (bytes_of B (T.keystream core.old)) bytes.old }
     ensures is_moved { IsMoved (T.keystream core.old) (length bytes.old / B) (T.keystream core.new) }
     ensures spent { Spends (T.remaining core.old) (length bytes.old / B) (T.remaining core.new) }

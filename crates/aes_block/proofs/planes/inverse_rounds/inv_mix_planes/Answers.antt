@@ -4,4 +4,4 @@ use Rattle.aes_block.proofs.InverseColumns.{inverse_blocks}
 use Rattle.aes_block.proofs.planes.inverse_rounds.inv_mix_planes.Goals as goal
 
 pub returns : goal.returns
-returns c b h = inverse_blocks b c.args.q _ h (c.mix_planes.ensures (map spread b) (c.spread_planes.ensures b h))
+returns g c p b h = inverse_blocks b _ _ h (c.mix_planes.ensures p (map spread b) (c.spread_planes.ensures p b h))

@@ -5,6 +5,6 @@ use Rattle.aes_block.proofs.LinearSteps.{both}
 use Rattle.aes_block.proofs.planes.inverse_rounds.round.Goals as goal
 
 pub returns : goal.returns
-returns c b key h g =
+returns g c p b key h k =
     both (λ v. add_round_key (inv_sub_bytes (inv_shift_rows v)) key) inv_mix_columns b _
-    (c.inv_mix_planes.ensures (map (λ v. add_round_key (inv_sub_bytes (inv_shift_rows v)) key) b) (c.last_round.ensures b key h g))
+    (c.inv_mix_planes.ensures p (map (λ v. add_round_key (inv_sub_bytes (inv_shift_rows v)) key) b) (c.last_round.ensures p b key h k))

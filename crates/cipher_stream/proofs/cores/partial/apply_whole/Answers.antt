@@ -28,9 +28,9 @@ apply_some-requires g c =
     let at = c.loop-at.at in
     let n = c.min-size.result in
     let bytes = c.args.bytes.now in
-    let whole : n % B ≡ 0 = elim (cases_lt (length bytes - at) (8 * B)) [
+    let whole : n % B ≡ 0 = elim (cases_lt (length bytes - at) (16 * B)) [
       | inl h ↦ let e : n ≡ length bytes - at = omega arith in ap (λ m. m % B) e ∙ left_whole B (length bytes) at c.requires before.whole before.within
-      | inr h ↦ let e : n ≡ 8 * B = omega arith in ap (λ m. m % B) e ∙ mul-mod_left 8 B
+      | inr h ↦ let e : n ≡ 16 * B = omega arith in ap (λ m. m % B) e ∙ mul-mod_left 16 B
     ] in
     let size : length c.loop-at.bytes ≡ length bytes = length_so_far bit_xor (bytes_of B (g.T.StreamCipherCore.keystream c.args.core.now)) bytes c.loop-at.bytes at before.so_far in
     let ln : length (take (at + n - at) (drop at c.loop-at.bytes)) ≡ n = simp (length-take, length-drop) (omega arith) in
@@ -50,9 +50,9 @@ loop-at-preserved g c =
     let mid = k.keystream c.loop-at.core in
     let new = k.keystream c.apply_some.new.core in
     let j : at + n - at ≡ n = omega arith in
-    let whole : n % B ≡ 0 = elim (cases_lt (length bytes - at) (8 * B)) [
+    let whole : n % B ≡ 0 = elim (cases_lt (length bytes - at) (16 * B)) [
       | inl h ↦ let e : n ≡ length bytes - at = omega arith in ap (λ m. m % B) e ∙ left_whole B (length bytes) at c.requires before.whole before.within
-      | inr h ↦ let e : n ≡ 8 * B = omega arith in ap (λ m. m % B) e ∙ mul-mod_left 8 B
+      | inr h ↦ let e : n ≡ 16 * B = omega arith in ap (λ m. m % B) e ∙ mul-mod_left 16 B
     ] in
     let size : length c.loop-at.bytes ≡ length bytes = length_so_far bit_xor (bytes_of B old) bytes c.loop-at.bytes at before.so_far in
     let ln : length (take (at + n - at) (drop at c.loop-at.bytes)) ≡ n = simp (length-take, length-drop) (omega arith) in

@@ -1,0 +1,6 @@
+use Rattle.std.proofs.Common.{◌/◌, ◌^◌}
+use Rattle.aes_block.proofs.Halves.{half-with}
+use Rattle.aes_block.proofs.planes.wide.U8x32Plane.down.Goals as goal
+
+pub returns : goal.returns
+returns c h = half-with (λ x y. x / 2 ^ y) h c.args.count c.args.self

@@ -1,0 +1,6 @@
+use Rattle.std.proofs.Common.{◌∙◌}
+use Rattle.aes_block.proofs.RoundKeys.{deciphered}
+use Rattle.aes_block.proofs.schedule.DecryptionDirection.one.Goals as goal
+
+pub returns : goal.returns
+returns c = c.decipher.ensures ∙ deciphered c.schedule.inside.round_keys c.schedule.inside.rounds c.args.schedule.now _ c.schedule.invariant.schedule c.schedule.view_is
