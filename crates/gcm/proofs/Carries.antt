@@ -1,40 +1,19 @@
 -- The part of a product from x ^ 128 on, which is kept apart and reduced once.
-use Rattle.std.proofs.Common.{◌≡◌, ℕ, zero, suc, ◌+◌, ◌-◌, ◌*◌, ◌/◌, ◌%◌, ◌^◌, ◌<◌, ◌≤◌, eqb, get_or, bit_xor, List, refl, sym, ap, ap₂, ◌∙◌, arith, eqb→eq}
-use Rattle.std.proofs.lemmas.Nat.{field_of, mod_low, pow-add, pow_pos, xor_comm, xor_mod}
+use Rattle.std.proofs.Common.{◌≡◌, ℕ, zero, suc, ◌+◌, ◌-◌, ◌*◌, ◌/◌, ◌%◌, ◌^◌, ◌<◌, ◌≤◌, eqb, get_or, bit_xor, List, refl, sym, ap, ap₂, ◌∙◌, subst, arith, eqb→eq, lit<}
+use Rattle.std.proofs.lemmas.Nat.{field_of, mod_low, pow-add, pow_pos, shr-shr, xor_comm, xor_lt, xor_mod}
 use Rattle.std.proofs.Math.Pow.{mod-mod-pow}
 use Rattle.std.proofs.Math.Nat.{mul_assoc}
-use Rattle.std.specs.Int.{w128, to_le_bytes}
-use Rattle.std.specs.Int.Bits.{xor_assoc, xor_zero_l, xor_zero_r}
+use Rattle.std.specs.Int.Bits.{xor_assoc}
 use lib.Bits.{xor_shifted}
 use Rattle.standards.proofs.Bytes.{every_below}
 use Rattle.standards.proofs.Products.{times_x_linear}
 use Rattle.standards.proofs.Xor.{exchange}
 use Rattle.standards.specs.Ghash.{product_low, times_x}
-use Rattle.gcm.specs.Carries.{carried, powers, rest}
-use Rattle.gcm.specs.Multiples.{eight, four, multiple8, sum4}
+use Rattle.gcm.specs.Carries.{AreEightBytes, IsSummed, bytes_of, carried, entries, powers, rest, sums}
+use Rattle.gcm.specs.Multiples.{eight, four, multiple8}
 use Rattle.gcm.proofs.FourBits.{halved}
 use Rattle.gcm.proofs.EightBits.{eight_bits, eight_high, eight_linear}
 use Rattle.gcm.proofs.Ring.{rest_linear, sums_step}
-
--- byte i of a number
-pub byte_is : (x i : ℕ) → i < 16 → get_or (to_le_bytes w128 x) i 0 ≡ x / 2 ^ (8 * i) % 256
-byte_is x zero h = let e : x % 256 ≡ x / 1 % 256 = omega arith in e
-byte_is x (suc zero) h = refl
-byte_is x (suc (suc zero)) h = refl
-byte_is x (suc (suc (suc zero))) h = refl
-byte_is x (suc (suc (suc (suc zero)))) h = refl
-byte_is x (suc (suc (suc (suc (suc zero))))) h = refl
-byte_is x (suc (suc (suc (suc (suc (suc zero)))))) h = refl
-byte_is x (suc (suc (suc (suc (suc (suc (suc zero))))))) h = refl
-byte_is x (suc (suc (suc (suc (suc (suc (suc (suc zero)))))))) h = refl
-byte_is x (suc (suc (suc (suc (suc (suc (suc (suc (suc zero))))))))) h = refl
-byte_is x (suc (suc (suc (suc (suc (suc (suc (suc (suc (suc zero)))))))))) h = refl
-byte_is x (suc (suc (suc (suc (suc (suc (suc (suc (suc (suc (suc zero))))))))))) h = refl
-byte_is x (suc (suc (suc (suc (suc (suc (suc (suc (suc (suc (suc (suc zero)))))))))))) h = refl
-byte_is x (suc (suc (suc (suc (suc (suc (suc (suc (suc (suc (suc (suc (suc zero))))))))))))) h = refl
-byte_is x (suc (suc (suc (suc (suc (suc (suc (suc (suc (suc (suc (suc (suc (suc zero)))))))))))))) h = refl
-byte_is x (suc (suc (suc (suc (suc (suc (suc (suc (suc (suc (suc (suc (suc (suc (suc zero))))))))))))))) h = refl
-byte_is x (suc (suc (suc (suc (suc (suc (suc (suc (suc (suc (suc (suc (suc (suc (suc (suc i)))))))))))))))) h = absurd (omega arith)
 
 -- a part without its lowest bits is shifted by them
 shifted_down : (n a : ℕ) → powers n (a * 2 ^ n) ≡ a
@@ -105,31 +84,25 @@ carry_step high low e h =
     ∙ sym (xor_assoc (bit_xor a u) l e)
     ∙ ap (λ v. bit_xor v e) (ap₂ bit_xor (sym (high_shifted high)) (sym (low_shifted low h)) ∙ sym (eight_linear high (rest low)))
 
--- how many of the lowest bits of the low part are 0
-pub carried_room : (high low k : ℕ) → k ≤ 120 → low % 2 ^ (k + 8) ≡ 0 → carried high low % 2 ^ k ≡ 0
-carried_room high low k h e =
-    let up = high * 2 ^ 120 % 2 ^ 128 in
-    let a : low / 256 % 2 ^ k ≡ 0 = sym (field_of low k 8) ∙ ap (λ v. v / 256) e in
+-- the lowest byte, above all others
+pub raised_room : (high k : ℕ) → k ≤ 120 → high * 2 ^ 120 % 2 ^ 128 % 2 ^ k ≡ 0
+raised_room high k h =
     let all : 128 ≡ 128 - k + k = omega (arith, h) in
     let most : 120 ≡ 120 - k + k = omega (arith, h) in
     let plus : (n : ℕ) → n ≡ n + 0 = λ n. omega arith in
-    let b : up % 2 ^ k ≡ high * 2 ^ 120 % 2 ^ k = ap (λ n. high * 2 ^ 120 % 2 ^ n % 2 ^ k) all ∙ mod-mod-pow (high * 2 ^ 120) (128 - k) k in
-    let c : high * 2 ^ 120 % 2 ^ k ≡ 0 =
-    ap (λ v. high * v % 2 ^ k) (ap (λ n. 2 ^ n) most ∙ pow-add 2 (120 - k) k)
+    ap (λ n. high * 2 ^ 120 % 2 ^ n % 2 ^ k) all ∙ mod-mod-pow (high * 2 ^ 120) (128 - k) k
+    ∙ ap (λ v. high * v % 2 ^ k) (ap (λ n. 2 ^ n) most ∙ pow-add 2 (120 - k) k)
     ∙ ap (λ v. v % 2 ^ k) (sym (mul_assoc high (2 ^ (120 - k)) (2 ^ k)) ∙ plus (high * 2 ^ (120 - k) * 2 ^ k))
-    ∙ mod_low (high * 2 ^ (120 - k)) k 0 (pow_pos k) in
-    xor_mod (low / 256) up k ∙ ap₂ bit_xor a (b ∙ c)
+    ∙ mod_low (high * 2 ^ (120 - k)) k 0 (pow_pos k)
+
+-- how many of the lowest bits of the low part are 0
+carried_room : (high low k : ℕ) → k ≤ 120 → low % 2 ^ (k + 8) ≡ 0 → carried high low % 2 ^ k ≡ 0
+carried_room high low k h e =
+    let a : low / 256 % 2 ^ k ≡ 0 = sym (field_of low k 8) ∙ ap (λ v. v / 256) e in
+    xor_mod (low / 256) (high * 2 ^ 120 % 2 ^ 128) k ∙ ap₂ bit_xor a (raised_room high k h)
 
 pub lowest_eight : (low k : ℕ) → low % 2 ^ (k + 8) ≡ 0 → low % 256 ≡ 0
 lowest_eight low k e = sym (mod-mod-pow low k 8) ∙ ap (λ v. v % 256) e
-
--- the sum of four multiples, as it is made
-abbrev pub entries : ℕ → ℕ → ℕ → ℕ → ℕ → ℕ → ℕ → ℕ → ℕ → ℕ
-entries p q r s a b c d n =
-    bit_xor (bit_xor (multiple8 p (a / 2 ^ n % 256)) (multiple8 q (b / 2 ^ n % 256))) (bit_xor (multiple8 r (c / 2 ^ n % 256)) (multiple8 s (d / 2 ^ n % 256)))
-
-abbrev pub sums : ℕ → ℕ → ℕ → ℕ → ℕ → ℕ → ℕ → ℕ → ℕ → ℕ
-sums p q r s a b c d n = sum4 (product_low p a n) (product_low q b n) (product_low r c n) (product_low s d n)
 
 pub entries_step : (p q r s a b c d n : ℕ) → bit_xor (eight (sums p q r s a b c d n)) (entries p q r s a b c d n) ≡ sums p q r s a b c d (n + 8)
 entries_step p q r s a b c d n =
@@ -141,21 +114,88 @@ rest_zero : rest 0 ≡ 0
 unfolding powers times_x
 rest_zero = refl
 
-none_yet : (p q r s a b c d : ℕ) → eight (sums p q r s a b c d 0) ≡ 0
+none_yet : (p q r s a b c d : ℕ) → sums p q r s a b c d 0 ≡ 0
 unfolding product_low times_x
 none_yet p q r s a b c d = refl
 
-pub first_entries : (p q r s a b c d : ℕ) → bit_xor (entries p q r s a b c d 0) (rest 0) ≡ sums p q r s a b c d 8
-first_entries p q r s a b c d =
-    let e = entries p q r s a b c d 0 in
-    ap (bit_xor e) rest_zero ∙ xor_zero_r e
-    ∙ sym (xor_zero_l e)
-    ∙ ap (λ v. bit_xor v e) (sym (none_yet p q r s a b c d))
-    ∙ entries_step p q r s a b c d 0
+-- before the first byte
+pub none_summed : (p q r s a b c d : ℕ) (high low : List ℕ) → high ≡ bytes_of 0 → low ≡ bytes_of 0 → IsSummed p q r s a b c d 0 high low
+none_summed p q r s a b c d high low high_is low_is = record {
+  h = 0;
+  l = 0;
+  high_is = high_is;
+  low_is = low_is;
+  high_fits = lit< tt;
+  low_fits = lit< tt;
+  begins = λ e. refl;
+  room = refl;
+  both = ap (bit_xor 0) rest_zero ∙ sym (none_yet p q r s a b c d);
+}
 
--- the multiples by byte i of four numbers
-pub entries_at : (p q r s a b c d i : ℕ) (u v w x : List ℕ) → i < 16 → u ≡ to_le_bytes w128 a → v ≡ to_le_bytes w128 b → w ≡ to_le_bytes w128 c → x ≡ to_le_bytes w128 d
-    → bit_xor (bit_xor (multiple8 p (get_or u i 0)) (multiple8 q (get_or v i 0))) (bit_xor (multiple8 r (get_or w i 0)) (multiple8 s (get_or x i 0))) ≡ entries p q r s a b c d (8 * i)
-entries_at p q r s a b c d i u v w x h u_is v_is w_is x_is =
-    let at : (l : List ℕ) (n : ℕ) → l ≡ to_le_bytes w128 n → get_or l i 0 ≡ n / 2 ^ (8 * i) % 256 = λ l n e. ap (λ m. get_or m i 0) e ∙ byte_is n i h in
-    ap₂ bit_xor (ap₂ bit_xor (ap (multiple8 p) (at u a u_is)) (ap (multiple8 q) (at v b v_is))) (ap₂ bit_xor (ap (multiple8 r) (at w c w_is)) (ap (multiple8 s) (at x d x_is)))
+-- the same number of bytes
+pub of_same : {p q r s a b c d i j : ℕ} {high low : List ℕ} → i ≡ j → IsSummed p q r s a b c d i high low → IsSummed p q r s a b c d j high low
+of_same {p} {q} {r} {s} {a} {b} {c} {d} {i} {j} {high} {low} e held = subst (λ n. IsSummed p q r s a b c d n high low) e held
+
+-- bytes k on of eight bytes from byte i on
+rest_at : (x a i k : ℕ) → x ≡ a / 2 ^ (8 * i) % 2 ^ 64 → k < 8 → x / 2 ^ (8 * k) / 1 % 256 ≡ a / 2 ^ (8 * (i + k)) % 256
+rest_at x a i k e below =
+    let w = a / 2 ^ (8 * i) in
+    let all : 64 ≡ 64 - 8 * k + 8 * k = omega (arith, below) in
+    let more : 64 - 8 * k ≡ 56 - 8 * k + 8 = omega (arith, below) in
+    let once : x / 2 ^ (8 * k) / 1 % 256 ≡ x / 2 ^ (8 * k) % 256 = omega arith in
+    let both : 8 * i + 8 * k ≡ 8 * (i + k) = omega arith in
+    once
+    ∙ ap (λ v. v / 2 ^ (8 * k) % 256) (e ∙ ap (λ n. w % 2 ^ n) all)
+    ∙ ap (λ v. v % 256) (field_of w (64 - 8 * k) (8 * k) ∙ ap (λ n. w / 2 ^ (8 * k) % 2 ^ n) more)
+    ∙ mod-mod-pow (w / 2 ^ (8 * k)) (56 - 8 * k) 8
+    ∙ ap (λ v. v % 256) (shr-shr a (8 * i) (8 * k) ∙ ap (λ n. a / 2 ^ n) both)
+
+pub entries_at : (p q r s a b c d i k : ℕ) (x : List ℕ) → AreEightBytes a b c d i x → k < 8
+    → entries p q r s (get_or x 0 0 / 2 ^ (8 * k)) (get_or x 1 0 / 2 ^ (8 * k)) (get_or x 2 0 / 2 ^ (8 * k)) (get_or x 3 0 / 2 ^ (8 * k)) 0
+    ≡ entries p q r s a b c d (8 * (i + k))
+entries_at p q r s a b c d i k x are below =
+    let at : (n m : ℕ) → n ≡ m / 2 ^ (8 * i) % 2 ^ 64 → n / 2 ^ (8 * k) / 1 % 256 ≡ m / 2 ^ (8 * (i + k)) % 256 = λ n m e. rest_at n m i k e below in
+    ap₂ bit_xor
+    (ap₂ bit_xor (ap (multiple8 p) (at (get_or x 0 0) a are.of_a)) (ap (multiple8 q) (at (get_or x 1 0) b are.of_b)))
+    (ap₂ bit_xor (ap (multiple8 r) (at (get_or x 2 0) c are.of_c)) (ap (multiple8 s) (at (get_or x 3 0) d are.of_d)))
+
+-- the room that is left in the low part
+room_next : (i h l : ℕ) → i < 16 → (i ≡ 0 → h ≡ 0) → l < 2 ^ 128 → l % 2 ^ (136 - 8 * i) ≡ 0 → carried h l % 2 ^ (136 - 8 * (i + 1)) ≡ 0
+room_next zero h l below begins fits room =
+    let none : l ≡ 0 = omega (arith, fits, room) in
+    ap₂ (λ v w. carried v w % 2 ^ 128) (begins refl) none
+room_next (suc j) h l below begins fits room =
+    let i = suc j in
+    let k = 128 - 8 * i in
+    let e : 136 - 8 * i ≡ k + 8 = omega (arith, below) in
+    let f : k ≡ 136 - 8 * (i + 1) = omega (arith, below) in
+    let most : k ≤ 120 = omega arith in
+    ap (λ n. carried h l % 2 ^ n) (sym f) ∙ carried_room h l k most (ap (λ n. l % 2 ^ n) (sym e) ∙ room)
+
+-- a byte more
+pub summed_next : (p q r s a b c d i : ℕ) (high low high2 low2 : List ℕ) (e : ℕ) (held : IsSummed p q r s a b c d i high low) → i < 16
+    → e ≡ entries p q r s a b c d (8 * i) → e < 2 ^ 128 → high2 ≡ bytes_of (bit_xor (held.h / 256) e) → low2 ≡ bytes_of (carried held.h held.l)
+    → IsSummed p q r s a b c d (i + 1) high2 low2
+summed_next p q r s a b c d i high low high2 low2 e held below e_is e_fits high_is low_is =
+    let h = held.h in
+    let l = held.l in
+    let k = 128 - 8 * i in
+    let down : (n : ℕ) → n < 2 ^ 128 → n / 256 < 2 ^ 128 = λ n f. omega (arith, f) in
+    let up : h * 2 ^ 120 % 2 ^ 128 < 2 ^ 128 = omega arith in
+    let room : l % 2 ^ (k + 8) ≡ 0 = ap (λ n. l % 2 ^ n) (omega (arith, below)) ∙ held.room in
+    let more : 8 * i + 8 ≡ 8 * (i + 1) = omega arith in
+    record {
+      h = bit_xor (h / 256) e;
+      l = carried h l;
+      high_is = high_is;
+      low_is = low_is;
+      high_fits = xor_lt 128 (h / 256) e (down h held.high_fits) e_fits;
+      low_fits = xor_lt 128 (l / 256) (h * 2 ^ 120 % 2 ^ 128) (down l held.low_fits) up;
+      begins = λ n. absurd (omega (arith, n));
+      room = room_next i h l below held.begins held.low_fits held.room;
+      both =
+          carry_step h l e (lowest_eight l k room)
+          ∙ ap₂ (λ v w. bit_xor (eight v) w) held.both e_is
+          ∙ entries_step p q r s a b c d (8 * i)
+          ∙ ap (sums p q r s a b c d) more;
+    }

@@ -1,9 +1,10 @@
 -- Two steps of four bits are one of eight.
-use Rattle.std.proofs.Common.{◌≡◌, ℕ, ◌+◌, ◌*◌, ◌/◌, ◌%◌, ◌^◌, ◌<◌, eqb, get_or, bit_xor, refl, sym, ap, ◌∙◌, arith, eqb→eq}
-use Rattle.std.proofs.lemmas.Nat.{shr-shr}
+use Rattle.std.proofs.Common.{◌≡◌, ℕ, zero, suc, ◌+◌, ◌*◌, ◌/◌, ◌%◌, ◌^◌, ◌<◌, eqb, get_or, bit_xor, refl, sym, ap, ◌∙◌, arith, eqb→eq}
+use Rattle.std.proofs.lemmas.Nat.{shr-shr, xor_lt}
 use Rattle.std.specs.Int.Bits.{xor_assoc, xor_zero_l}
 use lib.Bits.{xor_shifted}
 use Rattle.standards.proofs.Bytes.{every_below}
+use Rattle.standards.proofs.Products.{times_x_below}
 use Rattle.gcm.specs.declared.large_multiples.TheConstants.{REDUCED_BYTE}
 use Rattle.standards.specs.Ghash.{product_low, times_x}
 use Rattle.gcm.specs.Multiples.{eight, four, multiple, multiple8}
@@ -58,3 +59,26 @@ four_zero = refl
 -- the multiple by 1 is the number
 pub once_of_eight : (y : ℕ) → multiple8 y 128 ≡ y
 once_of_eight y = ap (λ v. bit_xor (four v) (multiple y 8)) (nothing y) ∙ ap (λ v. bit_xor v (multiple y 8)) four_zero ∙ xor_zero_l (multiple y 8) ∙ once y
+
+bit_times : (b y : ℕ) → b < 2 → y < 2 ^ 128 → b * y < 2 ^ 128
+bit_times zero y h k = omega arith
+bit_times (suc zero) y h k = omega arith
+bit_times (suc (suc b)) y h k = absurd (omega arith)
+
+four_below : (z : ℕ) → z < 2 ^ 128 → four z < 2 ^ 128
+four_below z h = times_x_below _ (times_x_below _ (times_x_below _ (times_x_below z h)))
+
+multiple_below : (y n : ℕ) → y < 2 ^ 128 → multiple y n < 2 ^ 128
+multiple_below y n h =
+    let once = times_x_below y h in
+    let twice = times_x_below _ once in
+    let thrice = times_x_below _ twice in
+    let a = bit_times (n % 2) _ (omega arith) thrice in
+    let b = bit_times (n / 2 % 2) _ (omega arith) twice in
+    let d = bit_times (n / 4 % 2) _ (omega arith) once in
+    let e = bit_times (n / 8 % 2) y (omega arith) h in
+    xor_lt 128 _ _ (xor_lt 128 _ _ (xor_lt 128 _ _ a b) d) e
+
+-- a multiple of a block's number is a block's number
+pub multiple8_below : (y n : ℕ) → y < 2 ^ 128 → multiple8 y n < 2 ^ 128
+multiple8_below y n h = xor_lt 128 _ _ (four_below _ (multiple_below y (n % 16) h)) (multiple_below y (n / 16 % 16) h)

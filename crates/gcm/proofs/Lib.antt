@@ -8,3 +8,4 @@ pub mod FourBits
 pub mod EightBits
 pub mod Ring
 pub mod Carries
+pub mod VectorFacts

@@ -1,5 +1,6 @@
 -- The multiples of a number by four bits.
-use Rattle.std.specs.Prelude.{◌≡◌, ℕ, ◌*◌, ◌/◌, ◌%◌, ◌^◌, ◌<◌, List, bit_xor, get_or}
+use Rattle.std.specs.Prelude.{◌≡◌, ℕ, ◌*◌, ◌/◌, ◌%◌, ◌^◌, ◌<◌, List, [], bit_xor, get_or}
+use Rattle.std.specs.Int.{w128, to_le_bytes}
 use Rattle.standards.specs.Ghash.{product, times_x}
 
 -- the product with x ^ 4
@@ -22,9 +23,14 @@ eight z = four (four z)
 abbrev pub multiple8 : ℕ → ℕ → ℕ
 multiple8 y n = bit_xor (four (multiple y (n % 16))) (multiple y (n / 16 % 16))
 
--- the table holds the 256 multiples of y
-abbrev pub IsLargeTable : ℕ → List ℕ → Type 0
-IsLargeTable y t = (n : ℕ) → n < 256 → get_or t n 0 ≡ multiple8 y n
+-- the table holds the bytes of the 256 multiples of y, the lowest first
+abbrev pub IsLargeTable : ℕ → List (List ℕ) → Type 0
+IsLargeTable y t = (n : ℕ) → n < 256 → get_or t n [] ≡ to_le_bytes w128 (multiple8 y n)
+
+-- and y is a block's number
+pub record AreLargeMultiples (y : ℕ) (t : List (List ℕ)) : Type 0 where
+  pub fits : y < 2 ^ 128
+  pub table : IsLargeTable y t
 
 abbrev pub sum4 : ℕ → ℕ → ℕ → ℕ → ℕ
 sum4 a b c d = bit_xor (bit_xor (bit_xor a b) c) d

@@ -1,10 +1,13 @@
 // Products with one number by a table of its 256 multiples, eight bits at a time.
-ghost use Rattle.std.specs.Prelude.{◌≡◌, ◌%◌, ◌<◌};
+ghost use Rattle.std.specs.Prelude.{◌≡◌, ◌%◌, ◌<◌, ◌^◌, ℕ, [], bit_xor, get_or};
 ghost use Rattle.standards.specs.Ghash.{product};
+ghost use Rattle.gcm.specs.Carries.{bytes_of};
 ghost use Rattle.gcm.specs.Multiples.{IsLargeTable, eight, four, multiple, multiple8};
 
 use crate::multiples::{Multiples, shift};
+use crate::vectors::{number_of, sum_of};
 use std::marker::Model;
+use std::simd::prelude::*;
 
 // What is left of eight bits that are shifted out, in the highest 16 bits.
 pub(crate) const REDUCED_BYTE: [u16; 256] = [
@@ -33,39 +36,63 @@ pub(crate) const REDUCED_BYTE: [u16; 256] = [
 ];
 
 // The multiples of a number by each polynomial of eight bits, the highest bit of an index being the coefficient of x^0.
-// A contract sees the number.
+// Each is its bytes, the lowest first. A contract sees the number.
 #[derive(Drop)]
 pub(crate) struct LargeMultiples {
-    table: [u128; 256],
+    number: u128,
+    table: [[u8; 16]; 256],
 }
 
 impl Model for LargeMultiples {
-    ghost use Rattle.std.specs.Prelude.{ℕ, get_or};
-    ghost use Rattle.gcm.specs.Multiples.{IsLargeTable};
+    ghost use Rattle.std.specs.Prelude.{ℕ};
+    ghost use Rattle.gcm.specs.Multiples.{AreLargeMultiples};
 
     ghost Value = { ℕ };
 
-    ghost view = { λ m. get_or m.table 128 0 };
+    ghost view = { λ m. m.number };
 
-    ghost invariant = { λ m. IsLargeTable (get_or m.table 128 0) m.table };
+    ghost invariant = { λ m. AreLargeMultiples m.number m.table };
 }
 
-// The multiple by the lowest eight bits, from the table of 16.
-#[inline(always)]
-fn multiple_by_byte(m: &Multiples, n: usize) -> u128
-    requires { n < 256 }
-    ensures { result ≡ multiple8 m.now n }
+// The multiples by the lowest four bits, where four more follow.
+fn make_low_rows(m: &Multiples) -> [[u8; 16]; 16]
+    ensures { (n : ℕ) → n < 16 → get_or result n [] ≡ bytes_of (four (multiple m.now n)) }
 {
-    shift(m.entry(n as u128)) ^ m.entry((n >> 4) as u128)
+    let mut rows = [[0u8; 16]; 16];
+    for n in 0..16usize {
+        rows[n] = shift(m.entry(n as u128)).to_le_bytes();
+    }
+    rows
+}
+
+// The multiples by the highest four bits.
+fn make_high_rows(m: &Multiples) -> [[u8; 16]; 16]
+    ensures { (n : ℕ) → n < 16 → get_or result n [] ≡ bytes_of (multiple m.now n) }
+{
+    let mut rows = [[0u8; 16]; 16];
+    for n in 0..16usize {
+        rows[n] = m.entry(n as u128).to_le_bytes();
+    }
+    rows
+}
+
+// The sum of two numbers by their bytes.
+#[inline(always)]
+fn sum_of_bytes(v: &[u8; 16], w: &[u8; 16]) -> [u8; 16]
+    ensures { (m n : ℕ) → v.now ≡ bytes_of m → w.now ≡ bytes_of n → result ≡ bytes_of (bit_xor m n) }
+{
+    sum_of(u8x16::from_array(*v), u8x16::from_array(*w)).to_array()
 }
 
 // The 256 multiples.
-fn make_large_table(m: &Multiples) -> [u128; 256]
+fn make_large_table(m: &Multiples) -> [[u8; 16]; 256]
     ensures { IsLargeTable m.now result }
 {
-    let mut table = [0u128; 256];
+    let low = make_low_rows(m);
+    let high = make_high_rows(m);
+    let mut table = [[0u8; 16]; 256];
     for n in 0..256usize {
-        table[n] = multiple_by_byte(m, n);
+        table[n] = sum_of_bytes(&low[n % 16], &high[n / 16]);
     }
     table
 }
@@ -92,24 +119,26 @@ impl LargeMultiples {
         ensures { result ≡ m.now }
     {
         LargeMultiples {
+            number: m.entry(8),
             table: make_large_table(m),
         }
     }
 
     // The multiple by the lowest eight bits.
     #[inline(always)]
-    pub(crate) fn entry(&self, x: u128) -> u128
+    fn entry(&self, x: u128) -> u128
         ensures { result ≡ multiple8 self.now (x % 256) }
     {
-        self.table[low_byte(x)]
+        number_of(u8x16::from_array(self.table[low_byte(x)]))
     }
 
-    // The multiple by a byte.
+    // The bytes of the multiple by the lowest eight bits.
     #[inline(always)]
-    pub(crate) fn by_byte(&self, byte: u8) -> u128
-        ensures { result ≡ multiple8 self.now byte }
+    pub(crate) fn entry_bytes(&self, x: u64) -> u8x16
+        ensures bytes { result ≡ bytes_of (multiple8 self.now (x % 256)) }
+        ensures below { multiple8 self.now (x % 256) < 2 ^ 128 }
     {
-        self.table[usize::from(byte)]
+        u8x16::from_array(self.table[(x & 255) as usize])
     }
 
     // The product with `x`, whose highest powers stand in its lowest bits.

@@ -17,6 +17,7 @@ mod opened;
 mod order;
 mod sealing;
 mod siv;
+mod vectors;
 
 pub use errors::{GcmError, GcmResult};
 pub use hashing::{ghash, polyval};

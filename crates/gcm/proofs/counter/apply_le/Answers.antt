@@ -1,4 +1,4 @@
-use Rattle.std.proofs.Common.{◌≡◌, ◌%◌, ap, ◌∙◌, arith}
+use Rattle.std.proofs.Common.{◌%◌, ap, ◌∙◌, arith}
 use Rattle.std.specs.Int.{w32}
 use Rattle.cipher_stream.specs.ByteStream.{bytes_from, to_come}
 use Rattle.cipher_stream.specs.Keystream.{xored}
