@@ -1,6 +1,6 @@
 #!/usr/bin/env bash
-# Times calls of the library from C and Python, beside GCM of the proved library itself, and the encryption and decryption of
-# 64 MiB beside those of the program. All are the best of five rounds, or of as many as the first word says. docs/BENCHMARKS.md
+# Times calls of the library from C and Python, beside GCM of the proved library itself, the encryption and decryption of 64 MiB
+# beside those of the program, and ranges of 4 KiB of a stream of 1 MiB. All are the best of five rounds, or of as many as the first word says. docs/BENCHMARKS.md
 # says what is measured. The second word is the folder of libtink.a and libtink.so, the third is the program, and the fourth is
 # that of crates/bench_speed. Without them they are proved and built first. It needs a C compiler and python3.
 set -euo pipefail
@@ -19,10 +19,10 @@ trap 'rm -rf "$folder"' EXIT
 ${CC:-cc} -O2 -Wall -Wextra -I"$root/bindings/c" "$root/benchmarks/bindings.c" "$library/libtink.a" -o "$folder/calls"
 export TINK_LIBRARY=$library/libtink.so PYTHONPATH=$root/bindings/python
 python3 - "$program" "$rounds" "$folder" "$hasher" <<'PY'
-import re, subprocess, sys, time
+import io, re, subprocess, sys, time
 
 import tink_proved
-from tink_proved import Aead, Keyset
+from tink_proved import Aead, Keyset, RangeReader, StreamReader
 
 program, rounds, folder, hasher = sys.argv[1], int(sys.argv[2]), sys.argv[3], sys.argv[4]
 MIB = 1 << 20
@@ -76,6 +76,14 @@ def write_pieces(keyset, data):
             writer.write(data[at : at + 65536])
 
 
+def read_pieces(keyset, stream):
+    """A reader whose text is read in pieces of 64 KiB, which are not kept."""
+    with StreamReader(io.BytesIO(stream), keyset) as reader:
+        place = bytearray(65536)
+        while reader.readinto(place):
+            pass
+
+
 def streams():
     keyset = Keyset.create("AES256_GCM_HKDF_1MB")
     keys, text = write("streams", bytes(keyset)), write("text", bytes(SIZE))
@@ -91,10 +99,31 @@ def streams():
         if own == "seal":
             told["C, a writer"] = in_c("write", keys, SIZE, 1)
             told["Python, a writer"] = best(lambda: write_pieces(keyset, data))
+        else:
+            told["C, a reader"] = in_c("read", keys, SIZE, 1)
+            told["Python, a reader"] = best(lambda: read_pieces(keyset, data))
         for name, seconds in told.items():
             print(f"{what} 64 MiB, {name + ':':17} {SIZE / MIB / seconds:7.0f} MiB/s, {its / seconds:5.2f} of the program")
 
 
+def one_range(reader, place):
+    reader.seek(place)
+    reader.read(4096)
+
+
+def ranges():
+    """A range of 4 KiB in the middle of a stream of 1 MiB: by the bytes of a keyset, and under keys that are loaded once."""
+    keyset, count = Keyset.create("AES128_GCM_HKDF_4KB"), 500
+    keys, stream = write("ranges", bytes(keyset)), tink_proved.seal_stream(keyset, bytes(MIB))
+    reader, place = RangeReader(keyset, stream), len(stream) // 2
+    told = {"C, a keyset": in_c("range", keys, MIB, count), "C, a reader": in_c("ranges", keys, MIB, count)}
+    told["Python, a keyset"] = best(lambda: [tink_proved.read_range(keyset, stream, b"", place, 4096) for _ in range(count)]) / count
+    told["Python, a reader"] = best(lambda: [one_range(reader, place) for _ in range(count)]) / count
+    for name, seconds in told.items():
+        print(f"range 4 KiB, {name + ':':17} {seconds * 1e6:8.2f} us, {seconds / told['C, a keyset']:5.2f} of the keyset's in C")
+
+
 calls()
 streams()
+ranges()
 PY

@@ -65,13 +65,14 @@ enum {
   TINK_MASTER_FAILED = 34,
   TINK_RANDOM_FAULT = 35, /* fewer random bytes were handed in than the call takes */
   TINK_TOO_LITTLE_ROOM = 42,
-  TINK_CLOSED = 43, /* the object holds nothing or another primitive, or the writer was closed */
+  TINK_CLOSED = 43, /* the object holds nothing or another primitive, or its stream has ended */
   TINK_DECRYPT_FAILED = 44,
-  TINK_FAILED_BEFORE = 45, /* the writer is spent: a call before was refused */
+  TINK_FAILED_BEFORE = 45, /* the writer or reader is spent: a call before was refused */
   TINK_TEXT_TOO_LONG = 46,
   TINK_DATA_TOO_LONG = 47,
   TINK_NOT_RAW = 48,
-  TINK_BAD_OUTPUT_LENGTH = 49
+  TINK_BAD_OUTPUT_LENGTH = 49,
+  TINK_UNREAD = 50 /* text of the reader waits: read it, and make the call again */
 };
 
 /* How many random bytes are enough. A call takes what it needs from the first one on. */
@@ -219,8 +220,9 @@ tink_status tink_verify_token(const uint8_t *keyset, size_t keyset_len,
 /* ---- objects: a keyset is loaded once, and asked often
  *
  * An object begins as TINK_NONE (`tink_aead aead = TINK_NONE;`). `_new` fills it, and it owns memory then; `_free` empties it.
- * No other call changes what it holds, but those of a writer. A call with an object that holds nothing, or another primitive, does nothing: it
- * answers TINK_CLOSED. Of an object and its copies only one may be used. Only the library writes its fields.
+ * No other call changes what it holds, but those of a writer and of a reader. A call with an object that holds nothing, or
+ * another primitive, does nothing: it answers TINK_CLOSED. Of an object and its copies only one may be used. Only the library
+ * writes its fields.
  */
 typedef struct {
   void *at;
@@ -251,6 +253,16 @@ typedef struct {
   void *at;
   bool full;
 } tink_writer;
+
+typedef struct {
+  void *at;
+  bool full;
+} tink_reader;
+
+typedef struct {
+  void *at;
+  bool full;
+} tink_range_reader;
 
 /* An object that holds nothing. */
 #define TINK_NONE {0, false}
@@ -382,6 +394,63 @@ tink_status tink_writer_close(tink_writer *object,
 
 /* Frees what the object holds. It holds nothing then, and may be filled or freed again. */
 void tink_writer_free(tink_writer *object);
+
+/* ---- streams that are read in pieces: the files that the program `tink` decrypts
+ *
+ * Feed the pieces of a stream, read the text that waits after each call, and end the reader. Text waits once its whole
+ * segment is authenticated. A reader keeps a segment and its text; no call but `_new` takes memory. The text that was read
+ * is whole if tink_reader_end answers TINK_OK, and not before: no other call finds a stream that is cut at the end of a
+ * segment. After each status other than TINK_OK and TINK_UNREAD a reader is spent: later calls answer TINK_FAILED_BEFORE.
+ */
+
+/* Fills an object with a reader of a stream under the keys of a keyset. What it held before is freed. After another status
+ * it is as before.
+ * Statuses: those of keys. */
+tink_status tink_reader_new(const uint8_t *keyset, size_t keyset_len,
+                            const uint8_t *associated_data, size_t associated_data_len,
+                            tink_reader *object);
+
+/* Takes bytes of a piece of the stream from its beginning on, and writes how many to `*taken`. At most one segment is
+ * opened, so the rest of the piece goes into the next call. If the piece is not empty, TINK_OK says that a byte was taken
+ * or that text waits now. If text waits before the call, nothing is taken, and the status is TINK_UNREAD. After each status
+ * other than TINK_OK `*taken` is 0. After tink_reader_end the status is TINK_CLOSED.
+ * Statuses: TINK_CLOSED, TINK_UNREAD, TINK_NO_MATCHING_KEY, TINK_BAD_SEGMENT, TINK_TOO_MANY_SEGMENTS, TINK_FAILED_BEFORE. */
+tink_status tink_reader_feed(tink_reader *object,
+                             const uint8_t *piece, size_t piece_len, size_t *taken);
+
+/* The text that waits, as much as has room. There may be none. It never answers TINK_TOO_LITTLE_ROOM.
+ * Statuses: TINK_CLOSED, TINK_FAILED_BEFORE. */
+tink_status tink_reader_read(tink_reader *object,
+                             uint8_t *out, size_t out_room, size_t *written);
+
+/* Says that nothing follows. The status is TINK_OK exactly if the pieces joined are a whole stream under a key of the
+ * keyset with this associated data, and its whole text was read. After TINK_UNREAD read the text that waits, and make the
+ * call again.
+ * Statuses: TINK_CLOSED, TINK_UNREAD, TINK_NO_MATCHING_KEY, TINK_BAD_SEGMENT, TINK_TRUNCATED, TINK_TOO_MANY_SEGMENTS,
+ * TINK_FAILED_BEFORE. */
+tink_status tink_reader_end(tink_reader *object);
+
+/* Frees what the object holds. It holds nothing then, and may be filled or freed again. */
+void tink_reader_free(tink_reader *object);
+
+/* ---- ranges of streams that are held whole, under keys that are loaded once */
+
+/* Fills an object with a reader of ranges under the keys of a keyset. What it held before is freed. After another status it
+ * is as before.
+ * Statuses: those of keys. */
+tink_status tink_range_reader_new(const uint8_t *keyset, size_t keyset_len,
+                                  const uint8_t *associated_data, size_t associated_data_len,
+                                  tink_range_reader *object);
+
+/* The bytes of the plaintext of a stream, as of tink_read_range. The stream may be another one in each call.
+ * Statuses: TINK_CLOSED, TINK_NO_MATCHING_KEY, TINK_BAD_SEGMENT, TINK_TRUNCATED, TINK_TOO_MANY_SEGMENTS. */
+tink_status tink_range_reader_read(tink_range_reader *object,
+                                   const uint8_t *stream, size_t stream_len,
+                                   uint64_t start, uint64_t length,
+                                   uint8_t *out, size_t out_room, size_t *written);
+
+/* Frees what the object holds. It holds nothing then, and may be filled or freed again. */
+void tink_range_reader_free(tink_range_reader *object);
 
 /* ---- streams that are held whole */
 

@@ -23,6 +23,12 @@ func (o *object) with(call func(at unsafe.Pointer)) {
 	runtime.KeepAlive(o)
 }
 
+// The status of a call with the object.
+func (o *object) status(call func(at unsafe.Pointer) C.uint8_t) (status Status) {
+	o.with(func(at unsafe.Pointer) { status = Status(call(at)) })
+	return
+}
+
 // The output of a call with the object.
 func (o *object) output(room int, call func(at unsafe.Pointer, out *C.uint8_t, room C.size_t, written *C.size_t) C.uint8_t) (result []byte, err error) {
 	o.with(func(at unsafe.Pointer) {

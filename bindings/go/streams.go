@@ -3,11 +3,6 @@ package tinkproved
 // #include <tink.h>
 import "C"
 
-import (
-	"errors"
-	"io"
-)
-
 // SealStream gives the stream of a plaintext under the primary key. The program `tink decrypt` opens it.
 func SealStream(keyset Keyset, plaintext, associatedData []byte) ([]byte, error) {
 	r, err := random(randomStream)
@@ -65,34 +60,3 @@ func RewrapStream(keyset Keyset, associatedData []byte, to Keyset, toAssociatedD
 }
 
 func streamRoom(input []byte) int { return len(input) + len(input)/64 + 1024 }
-
-// RangeReader reads the plaintext of a stream in memory at any place. Each read opens
-// the first segment, the last one and those that it reads.
-type RangeReader struct {
-	part func(start, length uint64) ([]byte, error)
-}
-
-// NewRangeReader is an io.ReaderAt of the plaintext of a stream.
-func NewRangeReader(keyset Keyset, stream, associatedData []byte) RangeReader {
-	return RangeReader{func(start, length uint64) ([]byte, error) {
-		return ReadRange(keyset, stream, associatedData, start, length)
-	}}
-}
-
-// ReadAt fills the buffer with the plaintext from a place on, and answers io.EOF if there is less of it.
-func (r RangeReader) ReadAt(buffer []byte, place int64) (int, error) {
-	if r.part == nil {
-		return 0, BadKeyset
-	}
-	if place < 0 {
-		return 0, errors.New("tink: there is no place below 0")
-	}
-	part, err := r.part(uint64(place), uint64(len(buffer)))
-	if err != nil {
-		return 0, err
-	}
-	if n := copy(buffer, part); n < len(buffer) {
-		return n, io.EOF
-	}
-	return len(buffer), nil
-}

@@ -11,6 +11,7 @@ import "C"
 import (
 	"crypto/rand"
 	"fmt"
+	"io"
 	"unsafe"
 )
 
@@ -49,6 +50,7 @@ const (
 	DataTooLong        Status = 47
 	NotRaw             Status = 48
 	BadOutputLength    Status = 49
+	Unread             Status = 50
 )
 
 var texts = map[Status]string{
@@ -75,13 +77,14 @@ var texts = map[Status]string{
 	MasterFailed:       "the master keyset refuses it: other keys or other associated data",
 	RandomFault:        "the system gave too few random bytes",
 	TooLittleRoom:      "the buffer is too small",
-	Closed:             "the object holds no keys: it was closed",
+	Closed:             "the object holds nothing: it was closed",
 	DecryptFailed:      "no key decrypts it with this associated data",
-	FailedBefore:       "a write before was refused: the writer takes no more",
+	FailedBefore:       "a call before was refused: the writer or reader takes no more",
 	TextTooLong:        "the plaintext is longer than the cipher takes",
 	DataTooLong:        "the associated data is longer than the cipher takes",
 	NotRaw:             "a pseudorandom function has a key with an output prefix",
 	BadOutputLength:    "the function gives no output of this length",
+	Unread:             "text of the reader waits",
 }
 
 // Error says what the status means.
@@ -90,6 +93,11 @@ func (s Status) Error() string {
 		return "tink: " + text
 	}
 	return fmt.Sprintf("tink: the call was refused: status %d", uint8(s))
+}
+
+// Is says that Truncated is an io.ErrUnexpectedEOF too.
+func (s Status) Is(target error) bool {
+	return s == Truncated && target == io.ErrUnexpectedEOF
 }
 
 // Enough random bytes for each call that takes some.

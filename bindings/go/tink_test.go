@@ -89,7 +89,7 @@ func TestVectors(t *testing.T) {
 			equal(t, bytesOf(signer.Verify(d[1])), d[2])
 		case "stream":
 			equal(t, bytesOf(OpenStream(d[0], d[2], d[1])), d[3])
-			part := io.NewSectionReader(NewRangeReader(d[0], d[2], d[1]), 1, 1<<40)
+			part := io.NewSectionReader(must[RangeReader](t)(NewRangeReader(d[0], d[2], d[1])), 1, 1<<40)
 			equal(t, bytesOf(io.ReadAll(part)), d[3][1:])
 		case "seal": // the wrapper draws its random bytes itself: what was made by those of the vector is read
 			equal(t, bytesOf(OpenStream(d[0], d[4], d[2])), d[1])
@@ -145,7 +145,7 @@ func TestStream(t *testing.T) {
 	text := bytes.Repeat([]byte("0123456789abcdef"), 1000)
 	stream := must[[]byte](t)(SealStream(keys, text, []byte("data")))
 	equal(t, must[[]byte](t)(OpenStream(keys, stream, []byte("data"))), text)
-	part := io.NewSectionReader(NewRangeReader(keys, stream, []byte("data")), 5000, 1<<40)
+	part := io.NewSectionReader(must[RangeReader](t)(NewRangeReader(keys, stream, []byte("data"))), 5000, 1<<40)
 	equal(t, must[[]byte](t)(io.ReadAll(part)), text[5000:])
 	if _, err := OpenStream(keys, stream[:4096], []byte("data")); err == nil {
 		t.Fatal("a cut stream was opened")
@@ -155,7 +155,6 @@ func TestStream(t *testing.T) {
 	equal(t, must[[]byte](t)(OpenStream(other, moved, []byte("new"))), text)
 }
 
-// No way to show a value shows the key, not even from within another struct.
 func TestEncryptingWriter(t *testing.T) {
 	keys := must[Keyset](t)(CreateKeyset("AES128_GCM_HKDF_4KB"))
 	text := make([]byte, 30000)
@@ -189,14 +188,17 @@ func TestEncryptingWriter(t *testing.T) {
 	refused(t, err, BadKeyset)
 }
 
+// No way to show a value shows the key, not even from within another struct.
 func TestNothingShowsAKey(t *testing.T) {
 	k := Keyset("the key")
-	reader := NewRangeReader(k, []byte("the key"), nil)
+	other := must[Keyset](t)(CreateKeyset("AES128_GCM_HKDF_4KB"))
+	reader := must[RangeReader](t)(NewRangeReader(other, []byte("the key"), []byte("the key")))
+	stream := must[*StreamReader](t)(NewStreamReader(bytes.NewReader(nil), other, []byte("the key")))
 	aead := must[AEAD](t)(NewAEAD(must[Keyset](t)(CreateKeyset("AES128_GCM"))))
-	if strings.Contains(fmt.Sprintf("%v %+v %#v", aead, aead, aead), "AesGcm") {
-		t.Error("an AEAD shows its keyset")
+	values := []any{aead, reader, stream}
+	if strings.Contains(fmt.Sprintf("%v %+v %#v", values, values, aead), "AesGcm") {
+		t.Error("a value shows its keyset")
 	}
-	values := []any{aead, reader}
 	for _, value := range append(values, struct{ inner any }{values}, k, &k) {
 		for _, verb := range []string{"%v", "%+v", "%#v", "%s", "%q", "%x", "%d"} {
 			shown := strings.ToLower(fmt.Sprintf(verb, value))
@@ -217,7 +219,7 @@ func TestNumbers(t *testing.T) {
 	}
 	keys := must[Keyset](t)(CreateKeyset("AES128_GCM_HKDF_4KB"))
 	stream := must[[]byte](t)(SealStream(keys, []byte("0123456789"), nil))
-	reader := NewRangeReader(keys, stream, nil)
+	reader := must[RangeReader](t)(NewRangeReader(keys, stream, nil))
 	two := make([]byte, 2)
 	if n, err := reader.ReadAt(two, -1); n != 0 || err == nil || err == io.EOF {
 		t.Fatal(n, err)

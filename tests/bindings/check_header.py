@@ -62,7 +62,7 @@ def exported():
                 called, kind = argument.split(": ")
                 for c_type, suffix in TYPES[kind]:
                     # An object has the type that the function is named after.
-                    parts.append((c_type.format(name.split("_")[1]), RENAMED.get(called + suffix, called + suffix)))
+                    parts.append((c_type.format(name.split("_", 1)[1].rsplit("_", 1)[0]), RENAMED.get(called + suffix, called + suffix)))
             functions[name] = ("tink_status" if result == "u8" else "void", parts)
     return functions
 
@@ -124,7 +124,7 @@ def check_rust(types, statuses):
 
 
 def check_go(types, statuses):
-    source = "".join(path.read_text() for path in sorted((ROOT / "bindings/go").glob("*.go")) if path.name != "tink_test.go")
+    source = "".join(path.read_text() for path in sorted((ROOT / "bindings/go").glob("*.go")) if "_test" not in path.name)
     called = set(re.findall(r"C\.(tink_\w+)\(", source))
     same("Go", dict.fromkeys(called | BY_OBJECTS, True), dict.fromkeys(types, True))
     errors = re.findall(r"^\t(\w+) +Status = (\d+)", source, re.M)

@@ -76,7 +76,7 @@ def in_go():
     run("go", "mod", "edit", "-require=tinkproved@v0.0.0", f"-replace=tinkproved={ROOT}/bindings/go")
     run("go", "vet", ".", **flags)
     shown = run("go", "run", ".", **flags)
-    assert shown == 'a value\n{"sub":1}\n', shown
+    assert shown == 'a value\n{"sub":1}\nsome text\ntext\n', shown
 
 
 def main():

@@ -310,10 +310,11 @@ class Buffers(unittest.TestCase):
             with self.subTest(name=name, error=error):
                 self.refuses(error, name, *values)
         huge = {tink_proved.TooManySegments, tink_proved.FailedBefore, tink_proved.TextTooLong, tink_proved.DataTooLong}
-        self.assertEqual(set(tink_proved.errors.BY_STATUS.values()) - self.seen, huge)
+        # No call with a buffer answers Unread.
+        self.assertEqual(set(tink_proved.errors.BY_STATUS.values()) - self.seen, huge | {tink_proved.Unread})
 
     def test_exceptions(self):
-        self.assertEqual(len(tink_proved.errors.BY_STATUS), 30)
+        self.assertEqual(len(tink_proved.errors.BY_STATUS), 31)
         for status, made in tink_proved.errors.BY_STATUS.items():
             error = tink_proved.errors.error_of(status)
             self.assertIs(type(error), made)
@@ -408,7 +409,7 @@ class Statuses(unittest.TestCase):
     def made(self, chance):
         """Inputs by the name of the argument: first those that fit, by a word of the call's name, and then any."""
         templates = {"_mac": "HMAC_SHA256_128BITTAG", "_token": "HMAC_SHA256_128BITTAG", "_prf": "HKDF_SHA256"}
-        templates.update(dict.fromkeys(("_stream", "_range", "_writer"), "AES128_GCM_HKDF_4KB"), _deterministically="AES256_SIV")
+        templates.update(dict.fromkeys(("_stream", "_range", "_writer", "_reader"), "AES128_GCM_HKDF_4KB"), _deterministically="AES256_SIV")
         fits = {"": {"keyset": Keyset.create("AES128_GCM").rotate("AES128_GCM")}}
         for word, template in templates.items():
             fits[word] = {"keyset": Keyset.create(template)}
@@ -418,24 +419,27 @@ class Statuses(unittest.TestCase):
         fits["_mac"]["mac"] = Mac(mac).compute_mac(b"text")
         fits["_token"]["token"] = tink_proved.sign_token(fits["_token"]["keyset"], b"{}")
         fits["_stream"]["stream"] = tink_proved.seal_stream(keys, bytes(9000), b"data")
-        fits["_stream"]["to_keyset"] = fits["_range"]["keyset"] = fits["_writer"]["keyset"] = keys
-        fits["_range"]["stream"] = fits["_stream"]["stream"]
+        fits["_stream"]["to_keyset"] = fits["_range"]["keyset"] = fits["_writer"]["keyset"] = fits["_reader"]["keyset"] = keys
+        fits["_range"]["stream"] = fits["_reader"]["stream"] = fits["_stream"]["stream"]
+        fits["_reader"]["piece"] = tink_proved.seal_stream(keys, b"text", b"data")
         keysets = [values["keyset"] for values in fits.values()] + [Keyset.create("AES128_CTR_HMAC_SHA256_4KB")]
         files = [bytes(keyset) for keyset in keysets] + [keyset.to_binary() for keyset in keysets] + [b"", b"{}"]
         files += [bytes(keyset.rotate("AES128_GCM", to_any=True).disable(keyset.primary_id)) for keyset in keysets]
         texts = [value for values in fits.values() for value in values.values() if isinstance(value, bytes)] + [b""]
         pools = dict.fromkeys(("keyset", "master", "to_keyset", "wrapped"), files)
         pools.update(dict.fromkeys(("ciphertext", "token", "mac", "stream", "associated_data", "to_associated_data"), texts))
-        pools.update(dict.fromkeys(("plaintext", "message", "input", "payload", "piece"), texts), needed=[ctypes.c_size_t(0)])
+        pools.update(dict.fromkeys(("plaintext", "message", "input", "payload", "piece"), texts))
+        pools["needed"] = pools["taken"] = [ctypes.c_size_t(0)]
         pools["template_name"] = [name.encode() for name in templates.values()] + [b"none"]
         pools["random"] = [bytes(576)] + [os.urandom(count) for count in (0, 11, 12, 16, 39, 52)]
         pools["id"] = [key.id for keyset in keysets for key in keyset.keys()]
         pools["start"] = pools["length"] = pools["output_length"] = [0, 1, 16, 5000, 1 << 20, (1 << 64) - 1]
         pools["json"] = pools["to_any"] = [False, True]
         common = {"master": gcm, "template_name": b"AES128_GCM", "random": os.urandom(576), "start": 0, "length": 9, "output_length": 9}
-        common.update(dict.fromkeys(("plaintext", "message", "input", "payload", "piece"), b"text"), needed=ctypes.c_size_t(0), id=gcm.keys()[0].id, json=True)
+        common.update(dict.fromkeys(("plaintext", "message", "input", "payload", "piece"), b"text"), id=gcm.keys()[0].id, json=True)
+        common["needed"] = common["taken"] = ctypes.c_size_t(0)
         common.update(associated_data=b"data", to_associated_data=b"data", to_any=False)
-        for kind in ("aead", "daead", "mac", "prf", "signer", "writer"):
+        for kind in ("aead", "daead", "mac", "prf", "signer", "writer", "reader", "range_reader"):
             self.objects[f"tink_{kind}_free"] = lib.Handle()
         pools["object"] = list(self.objects.values())
         return fits, common, pools

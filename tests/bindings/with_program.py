@@ -9,7 +9,8 @@ from pathlib import Path
 sys.path.insert(0, str(Path(__file__).resolve().parents[2] / "bindings/python"))
 
 from tink_proved import Aead, DeterministicAead, Keyset, Mac, Prf, WrongPrimitive  # noqa: E402
-from tink_proved import encrypting_writer, open_stream, read_range, rewrap_stream, seal_stream, sign_token, verify_token  # noqa: E402
+from tink_proved import RangeReader, StreamReader, encrypting_writer, open_stream, read_range, rewrap_stream  # noqa: E402
+from tink_proved import seal_stream, sign_token, verify_token  # noqa: E402
 
 PROGRAM = os.path.abspath(sys.argv[1])
 checks = 0
@@ -43,6 +44,10 @@ def streams(text):
     program("encrypt", "-k", "keys.json", "--aad", "data", "-o", "theirs", "text")
     same(open_stream(keys, read("theirs"), b"data"), text)
     same(read_range(keys, read("theirs"), b"data", 5000, 300), text[5000:5300])
+    with open("theirs", "rb") as file, StreamReader(file, keys, b"data") as reader:
+        same(reader.read(), text)
+    with RangeReader(keys, read("theirs"), b"data") as reader:
+        same((reader.seek(5000), reader.read(300)), (5000, text[5000:5300]))
     for keyset, name in ((keys, "keys.json"), (other, "other.json")):
         with open("pieces", "wb") as file, encrypting_writer(file, keyset, b"data") as writer:
             for at in range(0, len(text), 777):

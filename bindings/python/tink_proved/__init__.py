@@ -4,7 +4,8 @@ from .errors import *  # noqa: F401,F403
 from .errors import TinkError
 from .keysets import Key, Keyset
 from .primitives import Aead, DeterministicAead, Mac, Prf, Signer, sign_token, verify_token
-from .streams import EncryptingWriter, RangeReader, encrypting_writer, open_stream, read_range, rewrap_stream, seal_stream
+from .readers import RangeReader, StreamReader
+from .streams import EncryptingWriter, encrypting_writer, open_stream, read_range, rewrap_stream, seal_stream
 
 __all__ = [
     "Aead",
@@ -16,6 +17,7 @@ __all__ = [
     "Prf",
     "RangeReader",
     "Signer",
+    "StreamReader",
     "TinkError",
     "encrypting_writer",
     "open_stream",

@@ -63,6 +63,14 @@ FUNCTIONS: Dict[str, str] = {
     "tink_writer_write": "object in out",
     "tink_writer_close": "object out",
     "tink_writer_free": "object",
+    "tink_reader_new": "in in object",
+    "tink_reader_feed": "object in length",
+    "tink_reader_read": "object out",
+    "tink_reader_end": "object",
+    "tink_reader_free": "object",
+    "tink_range_reader_new": "in in object",
+    "tink_range_reader_read": "object in u64 u64 out",
+    "tink_range_reader_free": "object",
 }
 
 # Enough random bytes for each call that takes some.
@@ -71,6 +79,7 @@ RANDOM_ENCRYPT = 16
 RANDOM_STREAM = 39
 
 _TOO_LITTLE_ROOM = 42
+_UNREAD = 50
 
 
 class Handle(ctypes.Structure):
@@ -78,6 +87,9 @@ class Handle(ctypes.Structure):
 
     _fields_ = [("at", ctypes.c_void_p), ("full", ctypes.c_bool)]
 
+
+# Where a call writes a length.
+Length = ctypes.c_size_t
 
 _NUMBERS: Dict[str, Any] = {"u32": ctypes.c_uint32, "u64": ctypes.c_uint64, "size": ctypes.c_size_t}
 
@@ -135,6 +147,26 @@ def data_of(value: Data) -> bytes:
     return bytes(value)
 
 
+class Rest:
+    """An input of which a call takes bytes from the beginning on. The rest of it is no copy."""
+
+    def __init__(self, data: Data = b"") -> None:
+        self._data, self._at = data_of(data), 0
+        self._start = ctypes.c_char_p(self._data)
+
+    def __len__(self) -> int:
+        return len(self._data) - self._at
+
+    def take(self, count: int) -> None:
+        """The rest begins so many bytes later."""
+        self._at += count
+
+    def passed(self) -> List[Any]:
+        """The pointer and the length."""
+        start = ctypes.cast(self._start, ctypes.c_void_p).value or 0
+        return [ctypes.c_char_p(start + self._at), len(self)]
+
+
 def number_of(kind: str, value: int) -> int:
     """A number that the library's type has."""
     number = operator.index(value)
@@ -149,7 +181,9 @@ def _passed(name: str, values: Any) -> List[Any]:
         raise TypeError(f"{name} takes {len(kinds)} values, not {len(values)}")
     passed: List[Any] = []
     for kind, value in zip(kinds, values):
-        if kind == "in":
+        if kind == "in" and isinstance(value, Rest):
+            passed += value.passed()
+        elif kind == "in":
             data = data_of(value)
             passed += [data, len(data)]
         elif kind in ("object", "length"):
@@ -164,6 +198,26 @@ def done(name: str, *values: Any) -> None:
     status = getattr(_lib, name)(*_passed(name, values))
     if status != 0:
         raise error_of(status)
+
+
+def is_read(name: str, *values: Any) -> bool:
+    """Does a call of a reader that gives no output, or raises its error. Whether no text waits."""
+    status = getattr(_lib, name)(*_passed(name, values))
+    if status not in (0, _UNREAD):
+        raise error_of(status)
+    return status == 0
+
+
+def into(name: str, buffer: memoryview, *values: Any) -> int:
+    """The length of the output of a call, for which the buffer of the caller has room."""
+    passed, written = _passed(name, values), ctypes.c_size_t(0)
+    out = (ctypes.c_char * len(buffer)).from_buffer(buffer)
+    status = getattr(_lib, name)(*passed, out, len(buffer), ctypes.byref(written))
+    # An error does not keep the buffer.
+    del out
+    if status != 0:
+        raise error_of(status)
+    return written.value
 
 
 def free(name: str, handle: Handle) -> None:

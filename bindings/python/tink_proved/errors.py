@@ -130,7 +130,7 @@ class TooLittleRoom(TinkError):
 
 class Closed(TinkError):
     status = 43
-    text = "the object holds no keys: it was closed"
+    text = "the object holds nothing: it was closed"
 
 
 class DecryptFailed(TinkError):
@@ -140,7 +140,7 @@ class DecryptFailed(TinkError):
 
 class FailedBefore(TinkError):
     status = 45
-    text = "a write before was refused: the writer takes no more"
+    text = "a call before was refused: the writer or reader takes no more"
 
 
 class TextTooLong(TinkError):
@@ -161,6 +161,11 @@ class NotRaw(TinkError):
 class BadOutputLength(TinkError):
     status = 49
     text = "the function gives no output of this length"
+
+
+class Unread(TinkError):
+    status = 50
+    text = "text of the reader waits"
 
 
 BY_STATUS: Dict[int, Type[TinkError]] = {error.status: error for error in TinkError.__subclasses__()}

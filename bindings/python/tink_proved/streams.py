@@ -1,6 +1,7 @@
 """Streams: written in pieces, or held whole and sealed, opened, read by ranges, and moved to another keyset."""
 
 import io
+import threading
 from typing import Any, BinaryIO
 
 from . import _library as lib
@@ -40,7 +41,7 @@ class EncryptingWriter(io.RawIOBase):
     stream does not pass for whole. The same holds of a writer that is dropped."""
 
     def __init__(self, file: BinaryIO, keyset: Keyset, associated_data: bytes = b"") -> None:
-        self._file, self._handle, self._place = file, lib.Handle(), lib.Place()
+        self._file, self._handle, self._place, self._lock = file, lib.Handle(), lib.Place(), threading.Lock()
         lib.done("tink_writer_new", bytes(keyset), associated_data, lib.random(lib.RANDOM_STREAM), self._handle)
 
     def writable(self) -> bool:
@@ -48,19 +49,21 @@ class EncryptingWriter(io.RawIOBase):
 
     def write(self, data: Any) -> int:
         """Encrypts all of the data, and writes the segments that are full."""
-        if self.closed:
-            raise ValueError("write to a closed file")
-        self._put(self._place.output("tink_writer_write", self._handle, data))
+        with self._lock:
+            if self.closed:
+                raise ValueError("write to a closed file")
+            self._put(self._place.output("tink_writer_write", self._handle, data))
         return len(memoryview(data).cast("B"))
 
     def close(self) -> None:
         """Writes the last segment. A second call does nothing."""
-        if self.closed:
-            return
-        try:
-            self._put(self._place.output("tink_writer_close", self._handle))
-        finally:
-            self._free()
+        with self._lock:
+            if self.closed:
+                return
+            try:
+                self._put(self._place.output("tink_writer_close", self._handle))
+            finally:
+                self._free()
 
     def _put(self, part: memoryview) -> None:
         while part:
@@ -74,8 +77,10 @@ class EncryptingWriter(io.RawIOBase):
     def __exit__(self, kind: Any, *_: Any) -> None:
         if kind is None:
             self.close()
-        elif not self.closed:
-            self._free()
+            return
+        with self._lock:
+            if not self.closed:
+                self._free()
 
     def __del__(self) -> None:
         if not self.closed:
@@ -85,44 +90,3 @@ class EncryptingWriter(io.RawIOBase):
 def encrypting_writer(file: BinaryIO, keyset: Keyset, associated_data: bytes = b"") -> EncryptingWriter:
     """A file whose bytes are encrypted into another file, under the primary key. The program `tink decrypt` opens it."""
     return EncryptingWriter(file, keyset, associated_data)
-
-
-class RangeReader(io.RawIOBase):
-    """The plaintext of a stream as a file that is read at any place. Each read opens the first
-    segment, the last one and those that it reads."""
-
-    def __init__(self, keyset: Keyset, stream: bytes, associated_data: bytes = b"") -> None:
-        self._keyset, self._stream, self._data, self._at = keyset, bytes(stream), associated_data, 0
-
-    def readable(self) -> bool:
-        return True
-
-    def seekable(self) -> bool:
-        return True
-
-    def tell(self) -> int:
-        return self._at
-
-    def seek(self, offset: int, whence: int = io.SEEK_SET) -> int:
-        """Moves to a place from the beginning or from here. The end is not known before it is read."""
-        if whence == io.SEEK_END:
-            raise io.UnsupportedOperation("the length of the plaintext is not known")
-        place = offset + (self._at if whence == io.SEEK_CUR else 0)
-        if place < 0:
-            raise ValueError(f"there is no place {place}")
-        self._at = place
-        return self._at
-
-    def readinto(self, buffer: Any) -> int:
-        part = self._part(len(buffer))
-        buffer[: len(part)] = part
-        return len(part)
-
-    def readall(self) -> bytes:
-        """All that is left, by one call."""
-        return self._part(len(self._stream))
-
-    def _part(self, length: int) -> bytes:
-        part = read_range(self._keyset, self._stream, self._data, self._at, length)
-        self._at += len(part)
-        return part

@@ -34,6 +34,7 @@ pub enum Error {
     DataTooLong,
     NotRaw,
     BadOutputLength,
+    Unread,
     /// A status that has no name here.
     Other(u8),
 }
@@ -71,6 +72,7 @@ impl Error {
             47 => Error::DataTooLong,
             48 => Error::NotRaw,
             49 => Error::BadOutputLength,
+            50 => Error::Unread,
             other => Error::Other(other),
         }
     }
@@ -102,13 +104,14 @@ impl fmt::Display for Error {
             Error::MasterFailed => "the master keyset refuses it: other keys or other associated data",
             Error::RandomFault => "the system gave too few random bytes",
             Error::TooLittleRoom => "the buffer is too small",
-            Error::Closed => "the object holds no keys",
+            Error::Closed => "the object holds nothing: it was closed",
             Error::DecryptFailed => "no key decrypts it with this associated data",
-            Error::FailedBefore => "a write before was refused: the writer takes no more",
+            Error::FailedBefore => "a call before was refused: the writer or reader takes no more",
             Error::TextTooLong => "the plaintext is longer than the cipher takes",
             Error::DataTooLong => "the associated data is longer than the cipher takes",
             Error::NotRaw => "a pseudorandom function has a key with an output prefix",
             Error::BadOutputLength => "the function gives no output of this length",
+            Error::Unread => "text of the reader waits",
             Error::Other(status) => return write!(f, "the call was refused: status {status}"),
         };
         f.write_str(text)
@@ -117,8 +120,13 @@ impl fmt::Display for Error {
 
 impl std::error::Error for Error {}
 
+/// Its kind is `UnexpectedEof` of `Truncated`, and `InvalidData` of every other one.
 impl From<Error> for std::io::Error {
     fn from(error: Error) -> Self {
-        std::io::Error::new(std::io::ErrorKind::InvalidData, error)
+        let kind = match error {
+            Error::Truncated => std::io::ErrorKind::UnexpectedEof,
+            _ => std::io::ErrorKind::InvalidData,
+        };
+        std::io::Error::new(kind, error)
     }
 }

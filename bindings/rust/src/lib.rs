@@ -13,10 +13,12 @@
 mod error;
 mod keyset;
 mod primitives;
+mod readers;
 mod streams;
 mod sys;
 
 pub use error::Error;
 pub use keyset::{Key, Keyset};
 pub use primitives::{Aead, DeterministicAead, Mac, Prf, Signer, sign_token, verify_token};
-pub use streams::{open_stream, read_range, rewrap_stream, seal_stream, EncryptingWriter, RangeReader};
+pub use readers::{RangeReader, StreamReader};
+pub use streams::{open_stream, read_range, rewrap_stream, seal_stream, EncryptingWriter};

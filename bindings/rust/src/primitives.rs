@@ -7,17 +7,23 @@ use std::sync::{Mutex, MutexGuard};
 const LONGEST_PRF: usize = 1 << 14;
 
 // The library's object. Threads may share it: their calls come one after another.
-struct Object(Mutex<Handle>);
+pub(crate) struct Object(Mutex<Handle>);
 
 impl Object {
     fn new(keyset: &Keyset, fill: unsafe extern "C" fn(*const u8, usize, *mut Handle) -> u8) -> Result<Object, Error> {
-        let (k, mut handle) = (keyset.as_bytes(), Handle::NONE);
-        done(unsafe { fill(k.as_ptr(), k.len(), &mut handle) })?;
+        let k = keyset.as_bytes();
+        Object::filled(|it| unsafe { fill(k.as_ptr(), k.len(), it) })
+    }
+
+    // One that a call fills.
+    pub(crate) fn filled(fill: impl FnOnce(*mut Handle) -> u8) -> Result<Object, Error> {
+        let mut handle = Handle::NONE;
+        done(fill(&mut handle))?;
         Ok(Object(Mutex::new(handle)))
     }
 
     // No call panics, so that no lock is poisoned.
-    fn lock(&self) -> MutexGuard<'_, Handle> {
+    pub(crate) fn lock(&self) -> MutexGuard<'_, Handle> {
         self.0.lock().unwrap_or_else(|poisoned| poisoned.into_inner())
     }
 }

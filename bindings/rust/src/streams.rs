@@ -1,7 +1,7 @@
 use crate::error::Error;
 use crate::keyset::Keyset;
 use crate::sys::{self, done, output, random, Handle};
-use std::io::{self, Read, Seek, SeekFrom, Write};
+use std::io::{self, Write};
 
 /// The stream of a plaintext under the primary key. The program `tink decrypt` opens it.
 pub fn seal_stream(keyset: &Keyset, plaintext: &[u8], associated_data: &[u8]) -> Result<Vec<u8>, Error> {
@@ -128,42 +128,5 @@ impl<W: Write> Write for EncryptingWriter<W> {
 impl<W: Write> Drop for EncryptingWriter<W> {
     fn drop(&mut self) {
         unsafe { sys::tink_writer_free(&mut self.handle) }
-    }
-}
-
-/// The plaintext of a stream in memory, which is read at any place. Each read opens
-/// the first segment, the last one and those that it reads.
-pub struct RangeReader<'k> {
-    keyset: &'k Keyset,
-    stream: &'k [u8],
-    associated_data: &'k [u8],
-    at: u64,
-}
-
-impl<'k> RangeReader<'k> {
-    pub fn new(keyset: &'k Keyset, stream: &'k [u8], associated_data: &'k [u8]) -> RangeReader<'k> {
-        RangeReader { keyset, stream, associated_data, at: 0 }
-    }
-}
-
-impl Read for RangeReader<'_> {
-    fn read(&mut self, buffer: &mut [u8]) -> io::Result<usize> {
-        let part = read_range(self.keyset, self.stream, self.associated_data, self.at, buffer.len() as u64)?;
-        buffer[..part.len()].copy_from_slice(&part);
-        self.at += part.len() as u64;
-        Ok(part.len())
-    }
-}
-
-/// The end is not known before it is read, so that no place is counted from it.
-impl Seek for RangeReader<'_> {
-    fn seek(&mut self, to: SeekFrom) -> io::Result<u64> {
-        let place = match to {
-            SeekFrom::Start(place) => Some(place),
-            SeekFrom::Current(by) => u64::try_from(i128::from(self.at) + i128::from(by)).ok(),
-            SeekFrom::End(_) => None,
-        };
-        self.at = place.ok_or(io::Error::from(io::ErrorKind::InvalidInput))?;
-        Ok(self.at)
     }
 }

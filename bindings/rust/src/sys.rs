@@ -55,6 +55,12 @@ functions! {
     fn tink_writer_bound(it: Object, length: usize, needed: Len);
     fn tink_writer_write(it: Object, p: In, pn: usize, o: Out, on: usize, w: Len);
     fn tink_writer_close(it: Object, o: Out, on: usize, w: Len);
+    fn tink_reader_new(k: In, kn: usize, a: In, an: usize, it: Object);
+    fn tink_reader_feed(it: Object, p: In, pn: usize, taken: Len);
+    fn tink_reader_read(it: Object, o: Out, on: usize, w: Len);
+    fn tink_reader_end(it: Object);
+    fn tink_range_reader_new(k: In, kn: usize, a: In, an: usize, it: Object);
+    fn tink_range_reader_read(it: Object, s: In, sn: usize, start: u64, length: u64, o: Out, on: usize, w: Len);
 }
 
 extern "C" {
@@ -64,6 +70,8 @@ extern "C" {
     pub fn tink_prf_free(it: Object);
     pub fn tink_signer_free(it: Object);
     pub fn tink_writer_free(it: Object);
+    pub fn tink_reader_free(it: Object);
+    pub fn tink_range_reader_free(it: Object);
 }
 
 /// An object of the library. It begins as `NONE`.

@@ -58,7 +58,7 @@ fn vectors() {
                 let keyset = Keyset::from(d[0].clone());
                 assert_eq!(open_stream(&keyset, &d[2], &d[1]).unwrap(), d[3]);
                 assert_eq!(read_range(&keyset, &d[2], &d[1], 1, 1 << 40).unwrap(), d[3][1..]);
-                let (mut reader, mut end) = (RangeReader::new(&keyset, &d[2], &d[1]), Vec::new());
+                let (mut reader, mut end) = (RangeReader::new(&keyset, &d[2], &d[1]).unwrap(), Vec::new());
                 reader.seek(SeekFrom::Start(1)).unwrap();
                 reader.read_to_end(&mut end).unwrap();
                 assert_eq!(end, d[3][1..]);
@@ -177,7 +177,7 @@ fn a_stream_in_pieces() {
 fn places_of_a_stream() {
     let keys = Keyset::create("AES128_GCM_HKDF_4KB").unwrap();
     let stream = seal_stream(&keys, b"0123456789", b"").unwrap();
-    let mut reader = RangeReader::new(&keys, &stream, b"");
+    let mut reader = RangeReader::new(&keys, &stream, b"").unwrap();
     let mut two = [0; 2];
     assert_eq!(reader.seek(SeekFrom::Start(7)).unwrap(), 7);
     assert_eq!(reader.seek(SeekFrom::Current(-4)).unwrap(), 3);

@@ -358,6 +358,51 @@ const TOKENS_AND_RANGES: &[Row] = &[
     ("its text", Step::Output(TEXT), HOLDS),
 ];
 
+const REFUSED_PARTS: &[Row] = &[
+    ("a stream", Step::Put("sealed", SEALED), HOLDS),
+    (
+        "info with other data",
+        Step::Run("info -k ctr sealed", 21),
+        HOLDS,
+    ),
+    (
+        "info of standard input",
+        Step::Run("info -k ctr --aad May", 2),
+        HOLDS,
+    ),
+    (
+        "info of no file",
+        Step::Run("info -k ctr --aad May none", 11),
+        HOLDS,
+    ),
+    (
+        "range of no file",
+        Step::Run("range -k ctr --aad May --start 0 --length 9 none", 11),
+        HOLDS,
+    ),
+    (
+        "range over the keys",
+        Step::Run(
+            "range -k ctr --aad May --start 0 --length 9 -o ctr sealed",
+            12,
+        ),
+        HOLDS,
+    ),
+    ("a cut stream", Step::Part("cut", SEALED, 0, 44), HOLDS),
+    (
+        "info of it",
+        Step::Run("info -k ctr --aad May cut", 23),
+        HOLDS,
+    ),
+    ("no lines", Step::Output(b""), HOLDS),
+    (
+        "range of it",
+        Step::Run("range -k ctr --aad May --start 0 --length 9 cut", 23),
+        HOLDS,
+    ),
+    ("no bytes", Step::Output(b""), HOLDS),
+];
+
 const MASTERS: &[Row] = &[
     ("random", Step::Random(b"twelve bytes"), HOLDS),
     (
@@ -486,6 +531,10 @@ fn parts(alloc: Global, verdict: &mut Verdict) {
     );
 }
 
+fn refused_parts(alloc: Global, verdict: &mut Verdict) {
+    walk(alloc, verdict, "a world for refused parts", REFUSED_PARTS);
+}
+
 fn masters(alloc: Global, verdict: &mut Verdict) {
     walk(alloc, verdict, "a world for masters", MASTERS);
 }
@@ -510,6 +559,7 @@ pub fn streams(alloc: Global, verdict: &mut Verdict) {
     wrong_streams(alloc, verdict);
     outputs(alloc, verdict);
     parts(alloc, verdict);
+    refused_parts(alloc, verdict);
 }
 
 /// The same of master keysets and of texts.

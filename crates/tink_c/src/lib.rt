@@ -7,5 +7,6 @@ mod edits;
 mod keysets;
 mod objects;
 mod primitives;
+mod readers;
 mod streams;
 mod writers;

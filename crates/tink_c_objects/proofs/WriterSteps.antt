@@ -11,7 +11,7 @@ use Rattle.tink_c_pieces.specs.Moments.{piece_moment}
 use Rattle.tink_c_streams.specs.Writers.{BeginsNoWriter, BeginsWriter, EndsStream, GoesOn, IsWriting}
 use Rattle.tink_c_streams.proofs.WriterFacts.{ends, goes_on}
 use Rattle.tink_c_objects.specs.declared.object.Object.{Object}
-use Rattle.tink_c_objects.specs.declared.object.Object.TheVariants.{Aead, Daead, Mac, Prfs, Writer}
+use Rattle.tink_c_objects.specs.declared.object.Object.TheVariants.{Aead, Daead, Mac, Prfs, Ranges, Reader, Writer}
 use Rattle.tink_c_objects.specs.Objects.{Puts}
 use Rattle.tink_c_objects.specs.Writers.{FillsWriter, OfWriter, WriterEnds, WriterTakes}
 
@@ -39,6 +39,8 @@ module _ (k : StreamKey) (aad random text bytes : List ℕ) where
   takes piece h (Some (Writer w)) (Some (Daead a)) t is = absurd t
   takes piece h (Some (Writer w)) (Some (Mac a)) t is = absurd t
   takes piece h (Some (Writer w)) (Some (Prfs a)) t is = absurd t
+  takes piece h (Some (Writer w)) (Some (Ranges a)) t is = absurd t
+  takes piece h (Some (Writer w)) (Some (Reader a)) t is = absurd t
   takes piece h (Some (Writer w)) None t is = absurd t
   takes piece h _ new t is = absurd is
 
@@ -49,5 +51,7 @@ module _ (k : StreamKey) (aad random text bytes : List ℕ) where
   gives_last h (Some (Writer w)) (Some (Daead a)) t is = absurd t
   gives_last h (Some (Writer w)) (Some (Mac a)) t is = absurd t
   gives_last h (Some (Writer w)) (Some (Prfs a)) t is = absurd t
+  gives_last h (Some (Writer w)) (Some (Ranges a)) t is = absurd t
+  gives_last h (Some (Writer w)) (Some (Reader a)) t is = absurd t
   gives_last h (Some (Writer w)) None t is = absurd t
   gives_last h _ new t is = absurd is

@@ -1,3 +1,5 @@
 pub mod Owned
 pub mod Objects
 pub mod Writers
+pub mod Ranges
+pub mod Readers

@@ -81,6 +81,24 @@ abbrev pub Puts : Result (Box Object) TinkError → Option Object → Option Obj
 Puts (Ok b) old new status = (new ≡ Some b.value) × (status ≡ ok)
 Puts (Err e) old new status = (new ≡ old) × (status ≡ c_status e.kind)
 
+-- ---- what a call that makes a reader leaves
+
+module _ (Is : Option Object → Type 0) (Refuses : Kind → Type 0) where
+  -- C holds such an object, by status 0
+  pub record IsRefilled (new : Option Object) (status : ℕ) : Type 0 where
+    pub is : Is new
+    pub status_ok : status ≡ ok
+
+  -- C holds what it held, by the status of an error
+  pub record IsUnchanged (old new : Option Object) (status : ℕ) : Type 0 where
+    pub kind : Kind
+    pub refused : Refuses kind
+    pub same : new ≡ old
+    pub status_err : status ≡ c_status kind
+
+  abbrev pub Refills : Option Object → Option Object → ℕ → Type 0
+  Refills old new status = IsRefilled new status ⊎ IsUnchanged old new status
+
 -- ---- tokens
 
 -- this holds of the MACs that an object holds

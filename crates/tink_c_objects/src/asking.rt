@@ -55,9 +55,12 @@ fn aead_encrypt_by(
 {
     match object {
         Object::Aead(aead) => encrypt(alloc, aead, plaintext, associated_data, random),
-        Object::Daead(_) | Object::Mac(_) | Object::Prfs(_) | Object::Writer(_) => Err(
-            TinkError::new(Kind::Closed),
-        ),
+        Object::Daead(_)
+        | Object::Mac(_)
+        | Object::Prfs(_)
+        | Object::Writer(_)
+        | Object::Ranges(_)
+        | Object::Reader(_) => Err(TinkError::new(Kind::Closed)),
     }
 }
 
@@ -93,9 +96,12 @@ fn aead_decrypt_by(
 {
     match object {
         Object::Aead(aead) => aead.decrypt(alloc, ciphertext, associated_data),
-        Object::Daead(_) | Object::Mac(_) | Object::Prfs(_) | Object::Writer(_) => Err(
-            TinkError::new(Kind::Closed),
-        ),
+        Object::Daead(_)
+        | Object::Mac(_)
+        | Object::Prfs(_)
+        | Object::Writer(_)
+        | Object::Ranges(_)
+        | Object::Reader(_) => Err(TinkError::new(Kind::Closed)),
     }
 }
 
@@ -132,9 +138,12 @@ fn daead_encrypt_by(
 {
     match object {
         Object::Daead(daead) => daead.encrypt_deterministically(alloc, plaintext, associated_data),
-        Object::Aead(_) | Object::Mac(_) | Object::Prfs(_) | Object::Writer(_) => Err(
-            TinkError::new(Kind::Closed),
-        ),
+        Object::Aead(_)
+        | Object::Mac(_)
+        | Object::Prfs(_)
+        | Object::Writer(_)
+        | Object::Ranges(_)
+        | Object::Reader(_) => Err(TinkError::new(Kind::Closed)),
     }
 }
 
@@ -170,9 +179,12 @@ fn daead_decrypt_by(
 {
     match object {
         Object::Daead(daead) => daead.decrypt_deterministically(alloc, ciphertext, associated_data),
-        Object::Aead(_) | Object::Mac(_) | Object::Prfs(_) | Object::Writer(_) => Err(
-            TinkError::new(Kind::Closed),
-        ),
+        Object::Aead(_)
+        | Object::Mac(_)
+        | Object::Prfs(_)
+        | Object::Writer(_)
+        | Object::Ranges(_)
+        | Object::Reader(_) => Err(TinkError::new(Kind::Closed)),
     }
 }
 
@@ -209,8 +221,11 @@ fn prf_compute_by(
 {
     match object {
         Object::Prfs(prfs) => prfs.compute_primary_prf(alloc, input, output_length),
-        Object::Aead(_) | Object::Daead(_) | Object::Mac(_) | Object::Writer(_) => Err(
-            TinkError::new(Kind::Closed),
-        ),
+        Object::Aead(_)
+        | Object::Daead(_)
+        | Object::Mac(_)
+        | Object::Writer(_)
+        | Object::Ranges(_)
+        | Object::Reader(_) => Err(TinkError::new(Kind::Closed)),
     }
 }

@@ -38,9 +38,12 @@ fn mac_compute_by(alloc: Global, object: &Object, message: &[u8]) -> Result<Byte
 {
     match object {
         Object::Mac(macs) => macs.compute_mac(alloc, message),
-        Object::Aead(_) | Object::Daead(_) | Object::Prfs(_) | Object::Writer(_) => Err(
-            TinkError::new(Kind::Closed),
-        ),
+        Object::Aead(_)
+        | Object::Daead(_)
+        | Object::Prfs(_)
+        | Object::Writer(_)
+        | Object::Ranges(_)
+        | Object::Reader(_) => Err(TinkError::new(Kind::Closed)),
     }
 }
 
@@ -76,9 +79,12 @@ fn mac_verify_by(
 {
     match object {
         Object::Mac(macs) => macs.verify_mac(alloc, mac, message),
-        Object::Aead(_) | Object::Daead(_) | Object::Prfs(_) | Object::Writer(_) => Err(
-            TinkError::new(Kind::Closed),
-        ),
+        Object::Aead(_)
+        | Object::Daead(_)
+        | Object::Prfs(_)
+        | Object::Writer(_)
+        | Object::Ranges(_)
+        | Object::Reader(_) => Err(TinkError::new(Kind::Closed)),
     }
 }
 
@@ -107,9 +113,12 @@ fn token_sign_by(alloc: Global, object: &Object, payload: &[u8]) -> Result<Bytes
             let token = sign(alloc, macs, payload)?;
             Ok(Bytes::from_vec(token.into_string().into_bytes()))
         }
-        Object::Aead(_) | Object::Daead(_) | Object::Prfs(_) | Object::Writer(_) => Err(
-            TinkError::new(Kind::Closed),
-        ),
+        Object::Aead(_)
+        | Object::Daead(_)
+        | Object::Prfs(_)
+        | Object::Writer(_)
+        | Object::Ranges(_)
+        | Object::Reader(_) => Err(TinkError::new(Kind::Closed)),
     }
 }
 
@@ -136,8 +145,11 @@ fn token_verify_by(alloc: Global, object: &Object, token: &[u8]) -> Result<Bytes
 {
     match object {
         Object::Mac(macs) => verify(alloc, macs, token),
-        Object::Aead(_) | Object::Daead(_) | Object::Prfs(_) | Object::Writer(_) => Err(
-            TinkError::new(Kind::Closed),
-        ),
+        Object::Aead(_)
+        | Object::Daead(_)
+        | Object::Prfs(_)
+        | Object::Writer(_)
+        | Object::Ranges(_)
+        | Object::Reader(_) => Err(TinkError::new(Kind::Closed)),
     }
 }

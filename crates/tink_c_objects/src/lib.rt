@@ -1,4 +1,5 @@
-//! Objects that C holds: the primitives of a keyset, which are loaded once and asked often, and writers of streams.
+//! Objects that C holds: the primitives of a keyset, which are loaded once and asked often, writers and readers of streams,
+//! and readers of ranges.
 #![tactic(auto)]
 
 mod asking;
@@ -7,6 +8,8 @@ mod filling;
 mod loose;
 mod object;
 mod owner;
+mod ranging;
+mod reading;
 mod slot;
 mod writing;
 
@@ -15,4 +18,6 @@ pub use asking_macs::{mac_compute, mac_verify, token_sign, token_verify};
 pub use filling::{fill_aead, fill_daead, fill_mac, fill_prfs};
 pub use object::Object;
 pub use owner::Owner;
+pub use ranging::{fill_ranges, range_read};
+pub use reading::{fill_reader, reader_end, reader_feed, reader_read};
 pub use writing::{fill_writer, writer_bound, writer_end, writer_write};

@@ -2,13 +2,14 @@
 
 use tink_aead::{AeadKind, WrappedAead};
 use tink_c_pieces::PieceWriter;
+use tink_c_streams::{PieceReader, RangeReader};
 use tink_daead::WrappedDeterministicAead;
 use tink_daead::subtle::AesSiv;
 use tink_mac::{MacKind, WrappedMac};
 use tink_prf::{PrfKind, Set};
 use tink_streaming_aead::StreamSegment;
 
-/// The primitives of a keyset, or a writer of a stream.
+/// The primitives of a keyset, a writer or a reader of a stream, or a reader of ranges.
 #[derive(Drop)]
 pub enum Object {
     /// AEADs.
@@ -21,4 +22,8 @@ pub enum Object {
     Prfs(Set<PrfKind>),
     /// A writer of a stream in pieces.
     Writer(PieceWriter<StreamSegment>),
+    /// A reader of ranges of streams.
+    Ranges(RangeReader),
+    /// A reader of a stream in pieces.
+    Reader(PieceReader),
 }

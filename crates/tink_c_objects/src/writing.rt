@@ -100,7 +100,12 @@ fn write_by(object: &mut Object, piece: &[u8], out: &mut [u8], written: &mut usi
 {
     match object {
         Object::Writer(writer) => writer.write(piece, out, written),
-        Object::Aead(_) | Object::Daead(_) | Object::Mac(_) | Object::Prfs(_) => closed(written),
+        Object::Aead(_)
+        | Object::Daead(_)
+        | Object::Mac(_)
+        | Object::Prfs(_)
+        | Object::Ranges(_)
+        | Object::Reader(_) => closed(written),
     }
 }
 
@@ -141,7 +146,12 @@ fn end_by(object: &mut Object, out: &mut [u8], written: &mut usize) -> u8
 {
     match object {
         Object::Writer(writer) => writer.end(out, written),
-        Object::Aead(_) | Object::Daead(_) | Object::Mac(_) | Object::Prfs(_) => closed(written),
+        Object::Aead(_)
+        | Object::Daead(_)
+        | Object::Mac(_)
+        | Object::Prfs(_)
+        | Object::Ranges(_)
+        | Object::Reader(_) => closed(written),
     }
 }
 
@@ -168,12 +178,17 @@ fn bound_by(object: &Object, more: usize, needed: &mut usize) -> u8
 {
     match object {
         Object::Writer(writer) => writer.bound(more, needed),
-        Object::Aead(_) | Object::Daead(_) | Object::Mac(_) | Object::Prfs(_) => closed(needed),
+        Object::Aead(_)
+        | Object::Daead(_)
+        | Object::Mac(_)
+        | Object::Prfs(_)
+        | Object::Ranges(_)
+        | Object::Reader(_) => closed(needed),
     }
 }
 
-// The status of an object that holds no writer.
-fn closed(written: &mut usize) -> u8
+// The status of an object that holds nothing of the call's sort.
+pub(crate) fn closed(written: &mut usize) -> u8
     ensures status { result ≡ c_status Closed }
     ensures written { written.new ≡ 0 }
 {

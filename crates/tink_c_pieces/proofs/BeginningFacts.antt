@@ -20,7 +20,7 @@ front_bytes k H Y pos long =
     let mark : slice_index (H ++ Y) (length k.out) ≡ slice_index H (length k.out) = get_or_append_left H Y 0 (length k.out) (omega (arith, long)) in
     ap (λ x. bytes_eq k.out x && nat_eq (slice_index (H ++ Y) (length k.out)) k.header) out ∙ ap (λ n. bytes_eq k.out (take (length k.out) H) && nat_eq n k.header) mark
 
-header_bytes : (k : OpeningKey) (H Y : List ℕ) → front_length k ≤ length H → header_of k (H ++ Y) ≡ header_of k H
+pub header_bytes : (k : OpeningKey) (H Y : List ℕ) → front_length k ≤ length H → header_of k (H ++ Y) ≡ header_of k H
 header_bytes k H Y long =
     ap (take k.header) (drop-append-le (length k.out) H Y (omega (arith, long)))
     ∙ take-append-le k.header (drop (length k.out) H) Y (omega (arith, long, length-drop (length k.out) H))

@@ -1,7 +1,7 @@
 -- From a segment that a reader opened, or did not, to what a piece gave.
 use Rattle.std.proofs.Common.{◌≡◌, inl, inr, ◌≤◌, ◌<◌, ◌+◌, ◌^◌, ℕ, zero, suc, Bool, List, [], ◌∷◌, ◌++◌, length, take, drop, Some, ap, refl, sym, ◌∙◌, subst, arith, length-append, length-drop, append_assoc}
 use Rattle.std.proofs.lemmas.Bool.{cases_lt}
-use Rattle.std.proofs.lemmas.List.{append-nil, length-take-le, take-append-le, take_all}
+use Rattle.std.proofs.lemmas.List.{append-nil, length-take, length-take-le, take-append-drop, take-append-le, take_all}
 use Rattle.tink_io.specs.declared.error.Kind.{Kind}
 use Rattle.tink_io.specs.declared.error.Kind.TheVariants.{BadSegment, ReadFault, TooManySegments, Truncated}
 use Rattle.stream_model.specs.Cut.{cut, room_at}
@@ -93,17 +93,27 @@ module _ (seg : ℕ → Bool → List ℕ → List ℕ) (first size : ℕ) (some
   -- each refusal of a segment that is there
   module _ (overhead : ℕ) (old : PieceReading) (piece part opened : List ℕ) (l : ℕ) (n : ReaderMoment) (over : overhead < first) (is : part ≡ take l piece)
       (long : room_at first size old.number < length (old.held ++ part)) (still : n.faults ≡ 0) where
+    -- the whole piece has at least the bytes that were taken
+    next : room_at first size old.number < length (old.held ++ piece)
+    next = omega (arith, long, ap length is, length-append old.held part, length-append old.held piece, length-take l piece)
+
+    -- what may come behind the bytes that were taken is the rest of the piece, and what may come behind it
+    behind : (more : List ℕ) → ((old.held ++ part) ++ (drop l piece ++ more) ≡ old.held ++ (piece ++ more))
+    behind more =
+        append_assoc old.held part (drop l piece ++ more) ∙ ap (λ x. old.held ++ (x ++ (drop l piece ++ more))) is
+        ∙ ap (λ x. old.held ++ x) (sym (append_assoc (take l piece) (drop l piece) more)) ∙ ap (λ x. old.held ++ (x ++ more)) (take-append-drop l piece)
+
     pub refused : (kind : Kind) → OpenNextRefused seg first size overhead (record { progress = old.progress; number = old.number; opened = opened; rest = Some (old.held ++ part); faults = 0 }) n kind
         → FeedRefused seg first size old piece kind
     refused ReadFault r = absurd (omega (arith, r.rose, still))
-    refused TooManySegments r = r.number
+    refused TooManySegments r = (r.number, next)
     refused (BadSegment k) r = record {
       number = r.number;
-      taken = l;
+      next = next;
       nothing = λ more.
           let a : ℕ = room_at first size old.number in
-          subst (λ x. Agree seg old.number (cut a size x) []) (append_assoc old.held part more ∙ ap (λ x. old.held ++ (x ++ more)) is)
-          (none_longer seg old.number a size (old.held ++ part) more (room_some first size old.number some fits) (omega (arith, some, fits)) long r.nothing);
+          subst (λ x. Agree seg old.number (cut a size x) []) (behind more)
+          (none_longer seg old.number a size (old.held ++ part) (drop l piece ++ more) (room_some first size old.number some fits) (omega (arith, some, fits)) long r.nothing);
     }
     refused (Truncated k) r =
         let a : ℕ = room_at first size old.number in

@@ -49,16 +49,20 @@ module _ (seg : ℕ → Bool → List ℕ → List ℕ) (first size : ℕ) where
     pub pending : new.pending ≡ joined texts
     pub leads : (more : List ℕ) → Leads seg old.number (chunks_at old.number (old.held ++ (take n piece ++ more))) texts (chunks_at new.number (new.held ++ more))
 
-  -- the next segment, which is there, is that of no text, whatever may come behind it
+  -- with the piece more than the next segment came
+  abbrev pub HasNext : PieceReading → List ℕ → Type 0
+  HasNext old piece = room_at first size old.number < length (old.held ++ piece)
+
+  -- the next segment, which is there, is that of no text, whatever may come behind the piece
   pub record FeedsBad (old : PieceReading) (piece : List ℕ) (n : ℕ) : Type 0 where
     pub number : n ≡ old.number
-    pub taken : ℕ
-    pub nothing : (more : List ℕ) → Agree seg old.number (chunks_at old.number (old.held ++ (take taken piece ++ more))) []
+    pub next : HasNext old piece
+    pub nothing : (more : List ℕ) → Agree seg old.number (chunks_at old.number (old.held ++ (piece ++ more))) []
 
   -- each refusal of a piece
   abbrev pub FeedRefused : PieceReading → List ℕ → Kind → Type 0
   FeedRefused old piece (BadSegment n) = FeedsBad old piece n
-  FeedRefused old piece TooManySegments = old.number ≡ 2 ^ 32
+  FeedRefused old piece TooManySegments = (old.number ≡ 2 ^ 32) × HasNext old piece
   FeedRefused old piece _ = ⊥
 
   -- the next segment of the bytes that are held was opened, behind which nothing comes: it is the last one where the reader has ended

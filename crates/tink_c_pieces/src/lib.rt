@@ -10,6 +10,7 @@ mod reading_laws;
 mod writing;
 
 pub use laws::law_pieces_are_the_stream;
+pub use part::Part;
 pub use reading::{feed, finish, give};
 pub use reading_laws::law_pieces_are_read;
 pub use writing::PieceWriter;

@@ -10,7 +10,7 @@ use tink_io::{Failed, Source};
 
 /// Bytes that are lent, which are read one after another. No read fails.
 #[derive(Drop)]
-pub(crate) struct Part<'a> {
+pub struct Part<'a> {
     bytes: &'a [u8],
 }
 
@@ -23,7 +23,8 @@ impl<'a> Model for Part<'a> {
 }
 
 impl<'a> Part<'a> {
-    pub(crate) fn new(bytes: &'a [u8]) -> Part<'a>
+    /// A source of `bytes`.
+    pub fn new(bytes: &'a [u8]) -> Part<'a>
         ensures { result ≡ bytes.now }
     {
         Part { bytes }

@@ -52,7 +52,7 @@ module _ (Whole : List ℕ → List ℕ → List ℕ → List ℕ → Outside �
       let drawn = subst (λ (x : List ℕ). Means x left (start_of input) (here source' sink') (Err e)) d start in
       inr (record { left_random = left; end = here source' sink'; reads = refl; writes = same.0; cause = subst (λ (x : TinkError). Means random left (start_of input) (here source' sink') (Err x)) (sym same.1) drawn })
 
-some_is : {x y : List ℕ} → Some x ≡ Some y → x ≡ y
+pub some_is : {x y : List ℕ} → Some x ≡ Some y → x ≡ y
 some_is same = cc
 
 -- ---- the keyset of a file

@@ -10,6 +10,7 @@ use Rattle.tink_cli_words.specs.declared.form.Action.TheVariants as actions
 use Rattle.tink_cli_words.specs.LineRead.{LineRead}
 use Rattle.tink_system.specs.States.{SystemState}
 use Rattle.tink_cli_keys.specs.Refusing.{IsCaused, IsRefusedAs, IsRefusedUnder}
+use Rattle.tink_cli_ranges.specs.Refusing.{HasPartCause}
 use Rattle.tink_cli_streams.specs.Causes.{HasMakeCause}
 use Rattle.tink_cli.specs.Lines.{HasCause, HasCauseBy, HasCauseUnless, LeavesAt, LeavesOutputBy}
 
@@ -35,6 +36,12 @@ streamed P before then now status le (inr (inl write)) = inr (inl write)
 streamed P before then now status le (inr (inr (inl rose))) = inr (inr (inl (Rose-later before then now rose le)))
 streamed P before then now status le (inr (inr (inr by))) = inr (inr (inr by))
 
+of_part : (lacks unwritten ends : Type 0) (line : LineRead) (s : SystemState) (before then now status : ℕ) → then ≤ now → HasPartCause lacks unwritten ends line s before then status
+    → HasPartCause lacks unwritten ends line s before now status
+of_part lacks unwritten ends line s before then now status le (inl want) = inl want
+of_part lacks unwritten ends line s before then now status le (inr (inl rose)) = inr (inl (Rose-later before then now rose le))
+of_part lacks unwritten ends line s before then now status le (inr (inr by)) = inr (inr by)
+
 cause : (action : Action) (line : LineRead) (s : SystemState) (before then now i j status : ℕ) → then ≤ now → HasCause action line s before then i j status
     → HasCause action line s before now i j status
 cause actions.New line s before then now i j status le is = refused _ _ before then now status le is
@@ -52,6 +59,8 @@ cause actions.Decrypt line s before then now i j status le is = streamed _ befor
 cause actions.Sign line s before then now i j status le is = streamed _ before then now status le is
 cause actions.Verify line s before then now i j status le is = streamed _ before then now status le is
 cause actions.Rewrap line s before then now i j status le is = streamed _ before then now status le is
+cause actions.Range line s before then now i j status le is = of_part _ _ _ line s before then now status le is
+cause actions.Info line s before then now i j status le is = of_part _ _ _ line s before then now status le is
 cause actions.Wrap line s before then now i j status le is = under _ line s _ before then now status le is
 cause actions.Unwrap line s before then now i j status le is = under _ line s _ before then now status le is
 cause actions.Templates line s before then now i j status le is = is

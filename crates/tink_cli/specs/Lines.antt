@@ -13,7 +13,10 @@ use Rattle.tink_io.specs.Faults.{Rose}
 use Rattle.tink_io.specs.Written.{AppendsPrefix}
 use Rattle.tink_system.specs.States.{SystemState}
 use Rattle.tink_cli_jobs.specs.Outputs.{KeepsFiles}
+use Rattle.tink_cli_ranges.specs.Informing.{IsInformed, LeavesInfo}
+use Rattle.tink_cli_ranges.specs.Leaving.{LeavesRange}
 use Rattle.tink_cli_ranges.specs.Ranges.{IsRanged}
+use Rattle.tink_cli_ranges.specs.Refusing.{HasInfoCause, HasRangeCause}
 use Rattle.tink_cli_streams.specs.Breaking.{IsUnmade}
 use Rattle.tink_cli_streams.specs.Causes.{HasMakeCause, HasMoveCause}
 use Rattle.tink_cli_streams.specs.Streams.{IsChecked, IsMade, IsMoved}
@@ -46,7 +49,7 @@ IsDone actions.Unwrap line old new got got_after = IsUnwrapped line old new got 
 IsDone actions.Templates line old new got got_after = Appends got got_after template_lines × KeepsFiles old new
 IsDone actions.Help line old new got got_after = Appends got got_after (help_of line.topic) × KeepsFiles old new
 IsDone actions.Version line old new got got_after = Appends got got_after VERSION.now × KeepsFiles old new
-IsDone actions.Info line old new got got_after = KeepsFiles old new
+IsDone actions.Info line old new got got_after = IsInformed line old got got_after × KeepsFiles old new
 
 abbrev pub IsDoneUnless : Bool → Given → SystemState → SystemState → Option (List ℕ) → Option (List ℕ) → Type 0
 IsDoneUnless true given old new got got_after = Appends got got_after (help_of (Some given.action)) × KeepsFiles old new
@@ -69,7 +72,7 @@ IsWrong (Err wrong) = Unit {0}
 abbrev pub IsUnshown : ℕ → ℕ → ℕ → Type 0
 IsUnshown out out_after status = (status ≡ 12) × Rose out out_after
 
--- What is on standard output after an error of a command, by its status. Of the commands that are not named here nothing is said.
+-- What is on standard output after an error of a command, by its status. Of `rewrap` nothing is said.
 abbrev pub LeavesOutput : Action → LineRead → SystemState → Option (List ℕ) → Option (List ℕ) → ℕ → Type 0
 LeavesOutput actions.Add line old got got_after status = got_after ≡ got
 LeavesOutput actions.Rotate line old got got_after status = got_after ≡ got
@@ -91,6 +94,8 @@ LeavesOutput actions.Encrypt line old got got_after status = IsUnmade actions.En
 LeavesOutput actions.Decrypt line old got got_after status = IsUnmade actions.Decrypt line old got got_after status
 LeavesOutput actions.Sign line old got got_after status = IsUnmade actions.Sign line old got got_after status
 LeavesOutput actions.Verify line old got got_after status = IsUnmade actions.Verify line old got got_after status
+LeavesOutput actions.Range line old got got_after status = LeavesRange line old got got_after status
+LeavesOutput actions.Info line old got got_after status = LeavesInfo line old got got_after status
 LeavesOutput _ line old got got_after status = Unit {0}
 
 abbrev pub LeavesOutputUnless : Bool → Given → SystemState → Option (List ℕ) → Option (List ℕ) → ℕ → Type 0
@@ -101,7 +106,7 @@ abbrev pub LeavesOutputBy : Given → SystemState → Option (List ℕ) → Opti
 LeavesOutputBy given old got got_after status = LeavesOutputUnless given.line.help given old got got_after status
 
 -- Why a command ended by an error, by its status, the counts of faults of the system before and after, and those of standard
--- output. Of the commands that are not named here nothing is said.
+-- output. Of `check` nothing is said.
 abbrev pub HasCause : Action → LineRead → SystemState → ℕ → ℕ → ℕ → ℕ → ℕ → Type 0
 HasCause actions.New line old before now out out_after status = HasNewCause line old before now out out_after status
 HasCause actions.Keys line old before now out out_after status = HasListCause line old before now out out_after status
@@ -118,6 +123,8 @@ HasCause actions.Decrypt line old before now out out_after status = HasMakeCause
 HasCause actions.Sign line old before now out out_after status = HasMakeCause actions.Sign line old before now status
 HasCause actions.Verify line old before now out out_after status = HasMakeCause actions.Verify line old before now status
 HasCause actions.Rewrap line old before now out out_after status = HasMoveCause line old before now status
+HasCause actions.Range line old before now out out_after status = HasRangeCause line old before now out out_after status
+HasCause actions.Info line old before now out out_after status = HasInfoCause line old before now out out_after status
 HasCause actions.Wrap line old before now out out_after status = HasWrapCause line old before now out out_after status
 HasCause actions.Unwrap line old before now out out_after status = HasUnwrapCause line old before now out out_after status
 HasCause actions.Templates line old before now out out_after status = (status ≡ 10) ⊎ IsUnshown out out_after status

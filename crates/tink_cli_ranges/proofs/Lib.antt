@@ -1,1 +1,4 @@
 pub mod RangingLemmas
+pub mod RefusingLemmas
+pub mod InformingLemmas
+pub mod LeavingLemmas

@@ -1,6 +1,12 @@
 //! The command that writes the key and the sizes of a stream without decrypting all of it.
 
-ghost use Rattle.std.specs.Prelude.{◌≡◌, ◌≤◌, ◌<◌};
+ghost use Rattle.std.specs.Io.KnownBytes.{Appends};
+ghost use Rattle.std.specs.Prelude.{◌≡◌, ◌≤◌, ◌<◌, ℕ, List, Some, true, IfErr, IfOk, OnOk, option_map};
+ghost use Rattle.tink_cli_ranges.specs.Informing.{IsInformed, IsTold, IsToldOf, IsUnwritten, LeavesInfo, LeavesLines, info_lines};
+ghost use Rattle.tink_cli_ranges.specs.Refusing.{HasCauseOf, HasInfoCause, IsEndRefused, MayEnd};
+ghost use Rattle.tink_io.specs.Faults.{Rose};
+ghost use Rattle.tink_io.specs.Written.{AppendsPrefix};
+ghost use Rattle.tink_system.specs.Statuses.{trouble_status};
 
 use crate::ranges::trouble_of;
 use std::alloc::{AllocError, Global};
@@ -21,13 +27,19 @@ use tink_system::{System, Trouble};
 ///
 /// # Errors
 /// Those of `stream_info` of `tink_rewrap` and of `keyset_of`, by their statuses. 11 if the file cannot be read, or
-/// standard input is named for two things. 12 if standard output fails. 10.
+/// standard input is named for two things. 12 if standard output fails, and a part of the lines may be there. 10. 2 if
+/// no file is named.
 pub fn info<'w, Y: System, K: Sink>(
     alloc: Global,
     system: &mut Y,
     line: &Line<'w>,
     sink: &mut K,
 ) -> Result<(), Trouble<'w>>
+    ensures done { OnOk result ((Y.state system.old).is_known ≡ true → IsInformed line.now (Y.state system.old) (K.got sink.old) (K.got sink.new)) }
+    ensures left { IfErr result (λ t. (Y.state system.old).is_known ≡ true → LeavesInfo line.now (Y.state system.old)
+        (K.got sink.old) (K.got sink.new) (trouble_status t)) }
+    ensures cause { IfErr result (λ t. (Y.state system.old).is_known ≡ true → HasInfoCause line.now (Y.state system.old)
+        (Y.faults system.old) (Y.faults system.new) (K.faults sink.old) (K.faults sink.new) (trouble_status t)) }
     ensures state { Y.state system.new ≡ Y.state system.old }
     ensures later { Y.faults system.old ≤ Y.faults system.new }
     ensures sink { K.same sink.old sink.new }
@@ -52,6 +64,14 @@ fn info_under<'w, Y: System, K: Sink>(
     job: &Job<'w>,
     sink: &mut K,
 ) -> Result<(), Trouble<'w>>
+    ensures done { OnOk result ((Y.state system.old).is_known ≡ true → IsToldOf keyset.now job.now.aad.now (Y.state system.old)
+        (option_map (λ n. n.now) job.now.input) (Appends (K.got sink.old) (K.got sink.new))) }
+    ensures left { IfErr result (λ t. (Y.state system.old).is_known ≡ true → LeavesLines (K.got sink.old) (K.got sink.new)
+        (IsToldOf keyset.now job.now.aad.now (Y.state system.old) (option_map (λ n. n.now) job.now.input)
+        (AppendsPrefix (K.got sink.old) (K.got sink.new))) (trouble_status t)) }
+    ensures cause { IfErr result (λ t. (Y.state system.old).is_known ≡ true → HasCauseOf IsEndRefused
+        (Rose (K.faults sink.old) (K.faults sink.new)) keyset.now job.now.aad.now (Y.state system.old)
+        (option_map (λ n. n.now) job.now.input) (Y.faults system.old) (Y.faults system.new) (trouble_status t)) }
     ensures state { Y.state system.new ≡ Y.state system.old }
     ensures later { Y.faults system.old ≤ Y.faults system.new }
     ensures sink { K.same sink.old sink.new }
@@ -78,6 +98,12 @@ fn info_of<'w, Y: System, K: Sink>(
     object: &mut Y::Object,
     sink: &mut K,
 ) -> Result<(), Trouble<'w>>
+    ensures done { OnOk result ((X : List ℕ) → Y.Object.bytes object.old ≡ Some X
+        → IsTold keyset.now job.now.aad.now X (Appends (K.got sink.old) (K.got sink.new))) }
+    ensures left { IfErr result (λ t. (X : List ℕ) → Y.Object.bytes object.old ≡ Some X → LeavesLines (K.got sink.old) (K.got sink.new)
+        (IsTold keyset.now job.now.aad.now X (AppendsPrefix (K.got sink.old) (K.got sink.new))) (trouble_status t)) }
+    ensures cause { IfErr result (λ t. MayEnd IsEndRefused (Rose (K.faults sink.old) (K.faults sink.new)) keyset.now job.now.aad.now
+        (Y.Object.bytes object.old) (trouble_status t)) }
     ensures sink { K.same sink.old sink.new }
 {
     inform_by::<Brand, Y, K>(alloc, system, keyset, job, object, sink, Blank::new(1))
@@ -96,6 +122,12 @@ fn inform_by<'w, L: Ledger, Y: System, K: Sink>(
     requires name { blank.name ≡ L.name }
     requires parts { blank.parts ≡ L.parts }
     requires some { 0 < blank.parts }
+    ensures done { OnOk result ((X : List ℕ) → Y.Object.bytes object.old ≡ Some X
+        → IsTold keyset.now job.now.aad.now X (Appends (K.got sink.old) (K.got sink.new))) }
+    ensures left { IfErr result (λ t. (X : List ℕ) → Y.Object.bytes object.old ≡ Some X → LeavesLines (K.got sink.old) (K.got sink.new)
+        (IsTold keyset.now job.now.aad.now X (AppendsPrefix (K.got sink.old) (K.got sink.new))) (trouble_status t)) }
+    ensures cause { IfErr result (λ t. MayEnd IsEndRefused (Rose (K.faults sink.old) (K.faults sink.new)) keyset.now job.now.aad.now
+        (Y.Object.bytes object.old) (trouble_status t)) }
     ensures sink { K.same sink.old sink.new }
 {
     let mut steps = Steps::<L>::new(blank);
@@ -107,23 +139,29 @@ fn inform_by<'w, L: Ledger, Y: System, K: Sink>(
 
 // Writes the lines.
 fn put_info<K: Sink>(alloc: Global, info: StreamInfo, sink: &mut K) -> Result<(), Trouble<'static>>
+    ensures done { OnOk result (Appends (K.got sink.old) (K.got sink.new) (info_lines info)) }
+    ensures refused { IfErr result (λ t. IsUnwritten (info_lines info) (K.got sink.old) (K.got sink.new)
+        (K.faults sink.old) (K.faults sink.new) (trouble_status t)) }
     ensures sink { K.same sink.old sink.new }
 {
     match lines_of(alloc, info) {
-        Ok(lines) => put(sink, lines.as_bytes()),
+        Ok(lines) => put(sink, lines.as_slice()),
         Err(_) => Err(Trouble::Refused(b"standard output", Kind::OutOfMemory)),
     }
 }
 
 // The lines.
-fn lines_of(alloc: Global, info: StreamInfo) -> Result<String, AllocError> {
+fn lines_of(alloc: Global, info: StreamInfo) -> Result<Vec<u8>, AllocError>
+    ensures { IfOk result (λ lines. lines.items ≡ info_lines info) }
+{
     let StreamInfo {
         key_id,
         segments,
         plaintext_len,
         segment_len,
     } = info;
-    format!(in alloc;
+    let text = format!(in alloc;
         "key {key_id}\nsegments {segments}\nsegment {segment_len} bytes\nplaintext {plaintext_len} bytes\n"
-    )
+    )?;
+    Ok(text.into_bytes())
 }

@@ -1,8 +1,11 @@
 //! The command over a range of a stream's text.
 
-ghost use Rattle.std.specs.Prelude.{◌≡◌, ◌≤◌, ◌<◌, ℕ, List, Some, Ok, true, false, IfErr, IfSome, IsErrAnd, OnErr, OnOk, option_map};
+ghost use Rattle.std.specs.Prelude.{◌≡◌, ◌≤◌, ◌<◌, ℕ, List, None, Some, Ok, true, false, IfErr, IfSome, IsErrAnd, OnErr, OnOk, option_map};
 ghost use Rattle.tink_cli_jobs.specs.Outputs.{IsInFile, IsPut, KeepsFiles, KeepsOtherFiles};
+ghost use Rattle.tink_cli_ranges.specs.Leaving.{LeavesRange, MayStop, StaysOr, StopsOf};
 ghost use Rattle.tink_cli_ranges.specs.Ranges.{IsRanged, IsRangedOf, IsSliceOf};
+ghost use Rattle.tink_cli_ranges.specs.Refusing.{CannotWrite, HasCauseOf, HasRangeCause, IsRangeRefused, MayEnd};
+ghost use Rattle.tink_io.specs.Faults.{Rose};
 ghost use Rattle.tink_system.specs.States.{KeepsSystem};
 ghost use Rattle.tink_system.specs.Statuses.{refusal_status, trouble_status};
 
@@ -31,6 +34,10 @@ pub fn range<'w, Y: System, K: Sink>(
 ) -> Result<(), Trouble<'w>>
     ensures done { OnOk result ((Y.state system.old).is_known ≡ true → IsRanged line.now
         (Y.state system.old) (Y.state system.new) (K.got sink.old) (K.got sink.new)) }
+    ensures left { IfErr result (λ t. (Y.state system.old).is_known ≡ true → LeavesRange line.now (Y.state system.old)
+        (K.got sink.old) (K.got sink.new) (trouble_status t)) }
+    ensures cause { IfErr result (λ t. (Y.state system.old).is_known ≡ true → HasRangeCause line.now (Y.state system.old)
+        (Y.faults system.old) (Y.faults system.new) (K.faults sink.old) (K.faults sink.new) (trouble_status t)) }
     ensures kept { OnErr result ((Y.state system.old).is_known ≡ true → KeepsFiles (Y.state system.old) (Y.state system.new)) }
     ensures system { KeepsSystem (Y.state system.old) (Y.state system.new) }
     ensures random { (Y.state system.new).random ≡ (Y.state system.old).random }
@@ -58,6 +65,12 @@ fn range_under<'w, Y: System, K: Sink>(
 ) -> Result<(), Trouble<'w>>
     ensures done { OnOk result ((Y.state system.old).is_known ≡ true → IsRangedOf keyset.now job.now start length
         (Y.state system.old) (Y.state system.new) (K.got sink.old) (K.got sink.new)) }
+    ensures left { IfErr result (λ t. (Y.state system.old).is_known ≡ true → StaysOr (option_map (λ n. n.now) job.now.output)
+        (K.got sink.old) (K.got sink.new) (StopsOf start length keyset.now job.now.aad.now (Y.state system.old)
+        (option_map (λ n. n.now) job.now.input) (K.got sink.old) (K.got sink.new) (trouble_status t))) }
+    ensures cause { IfErr result (λ t. (Y.state system.old).is_known ≡ true → HasCauseOf (IsRangeRefused start length)
+        (CannotWrite (option_map (λ n. n.now) job.now.output) (K.faults sink.old) (K.faults sink.new)) keyset.now job.now.aad.now
+        (Y.state system.old) (option_map (λ n. n.now) job.now.input) (Y.faults system.old) (Y.faults system.new) (trouble_status t)) }
     ensures kept { OnErr result ((Y.state system.old).is_known ≡ true → KeepsFiles (Y.state system.old) (Y.state system.new)) }
     ensures system { KeepsSystem (Y.state system.old) (Y.state system.new) }
     ensures random { (Y.state system.new).random ≡ (Y.state system.old).random }
@@ -87,6 +100,11 @@ fn range_of<'w, Y: System, K: Sink>(
     ensures done { OnOk result ((Y.state system.old).is_known ≡ true → (X : List ℕ) → Y.Object.bytes object.old ≡ Some X
         → IsPut (λ before after. IsSliceOf keyset.now job.now.aad.now start length X before after) job.now.keeps_output
         (Y.state system.old) (Y.state system.new) (option_map (λ n. n.now) job.now.output) (K.got sink.old) (K.got sink.new)) }
+    ensures left { IfErr result (λ t. StaysOr (option_map (λ n. n.now) job.now.output) (K.got sink.old) (K.got sink.new)
+        (MayStop start length keyset.now job.now.aad.now (Y.Object.bytes object.old) (K.got sink.old) (K.got sink.new) (trouble_status t))) }
+    ensures cause { IfErr result (λ t. MayEnd (IsRangeRefused start length)
+        (CannotWrite (option_map (λ n. n.now) job.now.output) (K.faults sink.old) (K.faults sink.new)) keyset.now job.now.aad.now
+        (Y.Object.bytes object.old) (trouble_status t)) }
     ensures kept { OnErr result ((Y.state system.old).is_known ≡ true → KeepsFiles (Y.state system.old) (Y.state system.new)) }
     ensures system { KeepsSystem (Y.state system.old) (Y.state system.new) }
     ensures random { (Y.state system.new).random ≡ (Y.state system.old).random }
@@ -124,6 +142,11 @@ fn put_range_by<'w, L: Ledger, Y: System, K: Sink>(
     ensures done { OnOk result ((Y.state system.old).is_known ≡ true → (X : List ℕ) → Y.Object.bytes object.old ≡ Some X
         → IsPut (λ before after. IsSliceOf keyset.now job.now.aad.now start length X before after) job.now.keeps_output
         (Y.state system.old) (Y.state system.new) (option_map (λ n. n.now) job.now.output) (K.got sink.old) (K.got sink.new)) }
+    ensures left { IfErr result (λ t. StaysOr (option_map (λ n. n.now) job.now.output) (K.got sink.old) (K.got sink.new)
+        (MayStop start length keyset.now job.now.aad.now (Y.Object.bytes object.old) (K.got sink.old) (K.got sink.new) (trouble_status t))) }
+    ensures cause { IfErr result (λ t. MayEnd (IsRangeRefused start length)
+        (CannotWrite (option_map (λ n. n.now) job.now.output) (K.faults sink.old) (K.faults sink.new)) keyset.now job.now.aad.now
+        (Y.Object.bytes object.old) (trouble_status t)) }
     ensures kept { OnErr result ((Y.state system.old).is_known ≡ true → KeepsFiles (Y.state system.old) (Y.state system.new)) }
     ensures system { KeepsSystem (Y.state system.old) (Y.state system.new) }
     ensures random { (Y.state system.new).random ≡ (Y.state system.old).random }
@@ -155,6 +178,10 @@ fn put<'w, L: Ledger, Y: System, K: Sink>(
 ) -> Result<(), Trouble<'w>>
     ensures done { OnOk result ((X before : List ℕ) → Y.Object.bytes object.old ≡ Some X → K.got sink.old ≡ Some before
         → IsSliceOf keyset.now job.now.aad.now start length X before (K.got sink.new)) }
+    ensures left { IfErr result (λ t. StaysOr None (K.got sink.old) (K.got sink.new)
+        (MayStop start length keyset.now job.now.aad.now (Y.Object.bytes object.old) (K.got sink.old) (K.got sink.new) (trouble_status t))) }
+    ensures cause { IfErr result (λ t. MayEnd (IsRangeRefused start length) (Rose (K.faults sink.old) (K.faults sink.new)) keyset.now job.now.aad.now
+        (Y.Object.bytes object.old) (trouble_status t)) }
     ensures still { system.new ≡ system.old }
     ensures sink { K.same sink.old sink.new }
 {
@@ -177,6 +204,8 @@ fn put_to<'w, L: Ledger, Y: System>(
     ensures done { OnOk result ((Y.state system.old).is_known ≡ true → (X : List ℕ) → Y.Object.bytes object.old ≡ Some X
         → IsInFile (λ before after. IsSliceOf keyset.now job.now.aad.now start length X before after) job.now.keeps_output
         (Y.state system.old) (Y.state system.new) output.now) }
+    ensures cause { IfErr result (λ t. MayEnd (IsRangeRefused start length) (Unit {0}) keyset.now job.now.aad.now
+        (Y.Object.bytes object.old) (trouble_status t)) }
     ensures kept { OnErr result ((Y.state system.old).is_known ≡ true → KeepsFiles (Y.state system.old) (Y.state system.new)) }
     ensures system { KeepsSystem (Y.state system.old) (Y.state system.new) }
     ensures random { (Y.state system.new).random ≡ (Y.state system.old).random }
@@ -207,6 +236,8 @@ fn put_to_file<'w, L: Ledger, Y: System>(
     ensures done { OnOk result ((Y.state system.old).is_known ≡ true → (X : List ℕ) → Y.Object.bytes object.old ≡ Some X
         → IsInFile (λ before after. IsSliceOf keyset.now job.now.aad.now start length X before after) job.now.keeps_output
         (Y.state system.old) (Y.state system.new) output.now) }
+    ensures cause { IfErr result (λ t. MayEnd (IsRangeRefused start length) (Unit {0}) keyset.now job.now.aad.now
+        (Y.Object.bytes object.old) (trouble_status t)) }
     ensures kept { OnErr result ((Y.state system.old).is_known ≡ true → KeepsFiles (Y.state system.old) (Y.state system.new)) }
     ensures system { KeepsSystem (Y.state system.old) (Y.state system.new) }
     ensures random { (Y.state system.new).random ≡ (Y.state system.old).random }
@@ -232,6 +263,8 @@ fn put_to_stream<'w, L: Ledger, Y: System>(
     output: &'w [u8],
     steps: &mut Steps<L>,
 ) -> Result<(), Trouble<'w>>
+    ensures cause { IfErr result (λ t. MayEnd (IsRangeRefused start length) (Unit {0}) keyset.now job.now.aad.now
+        (Y.Object.bytes object.old) (trouble_status t)) }
     ensures state { Y.state system.new ≡ Y.state system.old }
     ensures later { Y.faults system.old ≤ Y.faults system.new }
 {
@@ -270,6 +303,8 @@ fn put_to_draft<'w, L: Ledger, Y: System>(
     requires { Y.Draft.has_draft draft ≡ true }
     ensures done { OnOk result ((X before : List ℕ) → Y.Object.bytes object.old ≡ Some X → Y.Draft.got draft ≡ Some before
         → IsSliceOf keyset.now job.now.aad.now start length X before ((Y.state system.new).file output.now)) }
+    ensures cause { IfErr result (λ t. MayEnd (IsRangeRefused start length) (Unit {0}) keyset.now job.now.aad.now
+        (Y.Object.bytes object.old) (trouble_status t)) }
     ensures fresh { OnOk result (Y.Draft.replaces draft ≡ false → IfSome (Y.Draft.shown draft) (λ file. file ≡ None)) }
     ensures others { KeepsOtherFiles (Y.state system.old) (Y.state system.new) output.now }
     ensures kept { OnErr result (Y.Draft.shown draft ≡ Some ((Y.state system.old).file output.now)

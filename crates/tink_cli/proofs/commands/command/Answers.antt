@@ -20,3 +20,19 @@ returns-in-Rewrap-clause-refused g c =
     → HasCause action c.args.given.now.line (g.Y.System.state c.args.system.now) (g.Y.System.faults c.args.system.now)
     (g.Y.System.faults c.rewrap.new.system) (g.K.Sink.faults c.args.sink.now) (g.K.Sink.faults c.rewrap.new.sink) (trouble_status t)))
     (sym c.in-Rewrap.is) c.rewrap.ensures.cause)
+
+pub returns-in-Range-clause-refused : goal.returns-in-Range-clause-refused
+returns-in-Range-clause-refused g c =
+    by_line _ _ _ c.range.result c.args.given.now _ _ _ _ _ trouble_status c.if-asks_help.ensures
+    (subst (λ (action : Action). IfErr c.range.result (λ t. (g.Y.System.state c.args.system.now).is_known ≡ true
+    → HasCause action c.args.given.now.line (g.Y.System.state c.args.system.now) (g.Y.System.faults c.args.system.now)
+    (g.Y.System.faults c.range.new.system) (g.K.Sink.faults c.args.sink.now) (g.K.Sink.faults c.range.new.sink) (trouble_status t)))
+    (sym c.in-Range.is) c.range.ensures.cause)
+
+pub returns-in-Info-clause-refused : goal.returns-in-Info-clause-refused
+returns-in-Info-clause-refused g c =
+    by_line _ _ _ c.info.result c.args.given.now _ _ _ _ _ trouble_status c.if-asks_help.ensures
+    (subst (λ (action : Action). IfErr c.info.result (λ t. (g.Y.System.state c.args.system.now).is_known ≡ true
+    → HasCause action c.args.given.now.line (g.Y.System.state c.args.system.now) (g.Y.System.faults c.args.system.now)
+    (g.Y.System.faults c.info.new.system) (g.K.Sink.faults c.args.sink.now) (g.K.Sink.faults c.info.new.sink) (trouble_status t)))
+    (sym c.in-Info.is) c.info.ensures.cause)

@@ -1,4 +1,8 @@
-use Rattle.std.proofs.Common.{refl}
+use Rattle.std.specs.Prelude.{option_map}
+use Rattle.std.proofs.Common.{inl, inr, refl}
+use Rattle.tink_cli_ranges.specs.Refusing.{IsRangeRefused}
+use Rattle.tink_cli_ranges.proofs.LeavingLemmas.{opened_leaves, unmoved}
+use Rattle.tink_cli_ranges.proofs.RefusingLemmas.{opened, unopened}
 use Rattle.tink_cli_ranges.proofs.RangingLemmas.{ranged}
 use Rattle.tink_cli_ranges.proofs.ranges.range_under.Goals as goal
 
@@ -6,3 +10,28 @@ pub returns-in-Ok-clause-done : goal.returns-in-Ok-clause-done
 returns-in-Ok-clause-done g c =
     ranged c.args.keyset.now c.args.job.now c.args.start c.args.length (g.Y.System.state c.args.system.now) (g.Y.System.state c.open_at.new.self) _ c.in-Some.input.now
     (g.Y.Object.ReadAt.bytes c.in-Ok.object) _ _ c.range_of.result c.in-Ok.ensures.state (rw c.in-Some.is refl) c.in-Ok.ensures.bytes c.in-Ok.ensures.there c.range_of.ensures.done
+
+pub returns-in-Ok-clause-cause : goal.returns-in-Ok-clause-cause
+returns-in-Ok-clause-cause g c =
+    opened (IsRangeRefused c.args.start c.args.length) _ c.args.keyset.now c.args.job.now.aad.now (g.Y.System.state c.args.system.now) _ c.in-Some.input.now
+    (g.Y.Object.ReadAt.bytes c.in-Ok.object) (g.Y.System.faults c.args.system.now) (g.Y.System.faults c.range_of.new.system) c.range_of.result (rw c.in-Some.is refl)
+    c.in-Ok.ensures.bytes c.in-Ok.ensures.there c.range_of.ensures.cause
+
+pub returns-in-Err-clause-cause : goal.returns-in-Err-clause-cause
+returns-in-Err-clause-cause g c = λ known.
+    unopened (IsRangeRefused c.args.start c.args.length) _ c.args.keyset.now c.args.job.now.aad.now (g.Y.System.state c.args.system.now) _ c.in-Some.input.now
+    (g.Y.System.faults c.args.system.now) (g.Y.System.faults c.open_at.new.self) c.in-Err.trouble (rw c.in-Some.is refl) c.in-Err.ensures.refused known
+
+pub returns-in_default-clause-cause : goal.returns-in_default-clause-cause
+returns-in_default-clause-cause g c = λ known. inr (inr (inl (refl, rw c.in_default.is refl)))
+
+pub returns-in-Ok-clause-left : goal.returns-in-Ok-clause-left
+returns-in-Ok-clause-left g c =
+    opened_leaves (option_map (λ n. n.now) c.args.job.now.output) c.args.start c.args.length c.args.keyset.now c.args.job.now.aad.now (g.Y.System.state c.args.system.now) _
+    c.in-Some.input.now (g.Y.Object.ReadAt.bytes c.in-Ok.object) _ _ c.range_of.result (rw c.in-Some.is refl) c.in-Ok.ensures.bytes c.in-Ok.ensures.there c.range_of.ensures.left
+
+pub returns-in-Err-clause-left : goal.returns-in-Err-clause-left
+returns-in-Err-clause-left g c = λ known. unmoved (option_map (λ n. n.now) c.args.job.now.output) (g.K.Sink.got c.args.sink.now) _
+
+pub returns-in_default-clause-left : goal.returns-in_default-clause-left
+returns-in_default-clause-left g c = λ known. unmoved (option_map (λ n. n.now) c.args.job.now.output) (g.K.Sink.got c.args.sink.now) _
